@@ -1,0 +1,23 @@
+-- Words that definitions are made of: one of two answers by a test, bit k of a number, a test of every number below n.
+use mathlib.Core.Bool.{Bool, true, false, _&&_, _||_}
+use Prim.Native.Nat.{ℕ, zero, suc, _/_, _%_, _^_}
+use lib.Dec.{eqb}
+
+-- the first answer where the test is true, else the second
+abbrev pub cond : {A : Type 0} → Bool → A → A → A
+cond true a b = a
+cond false a b = b
+
+-- bit k of a number, counted from the lowest, which is bit 0
+abbrev pub bit : ℕ → ℕ → Bool
+bit k n = eqb (n / 2 ^ k % 2) 1
+
+-- every number below n passes the test
+unfoldable pub every : ℕ → (ℕ → Bool) → Bool
+every zero p = true
+every (suc n) p = every n p && p n
+
+-- some number below n passes the test
+unfoldable pub some : ℕ → (ℕ → Bool) → Bool
+some zero p = false
+some (suc n) p = some n p || p n

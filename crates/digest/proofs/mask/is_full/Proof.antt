@@ -1,0 +1,11 @@
+-- The largest mask is the one with every bit. Assumes nothing.
+use native.Mathlib.Omega.{arith}
+use Rattle.bits.specs.Same.{full-bits}
+use Rattle.digest.proofs.mask.is_full.Statement.{statement}
+use Rattle.digest.proofs.mask.is_full.Tie as tie
+
+returns : tie.Need-returns
+returns c = full-bits 64 (c .args .mask) (omega arith)
+
+pub is-full-spec : {M : Type 1} → statement M
+is-full-spec = tie.close (tie.spec returns)

@@ -1,0 +1,185 @@
+// Digests of sets of glyphs and of rules' values: small sums that say "not in it" for certain, or "maybe".
+mod mask;
+pub mod rule;
+
+ghost use mathlib.Core.Path.{_≡_};
+ghost use mathlib.Core.Bool.{_||_};
+ghost use Prim.Native.Nat.{ℕ, _/_, _^_, _<_};
+ghost use Rattle.bits.specs.Bits.{bit};
+ghost use Rattle.digest.specs.Digest.{Says, bitsOf, shift, place, wide, round, none, all, joined, added, addedAll, ranged, full, rangeYes, mayHave, mayIntersect};
+
+const SHIFTS: [u32; 3] = [4, 0, 6];
+
+pub struct SetDigest {
+    pub masks: [u64; 3],
+}
+
+// A digest to which a range was added, and what adding it answers.
+pub struct Ranged {
+    pub digest: SetDigest,
+    pub yes: bool,
+}
+
+impl SetDigest {
+    pub fn new() -> Self
+        ensures { λ r. ⌜ Says r none ⌝ }
+    {
+        SetDigest { masks: [0; 3] }
+    }
+
+    pub fn full() -> Self
+        ensures { λ r. ⌜ Says r all ⌝ }
+    {
+        SetDigest {
+            masks: [mask::ALL; 3],
+        }
+    }
+
+    pub fn clear(self) -> Self
+        ensures { λ r. ⌜ Says r none ⌝ }
+    {
+        SetDigest::new()
+    }
+
+    pub fn union(self, other: SetDigest) -> Self
+        ensures { λ r. ⌜ Says r (joined (bitsOf self) (bitsOf other)) ⌝ }
+    {
+        let old = self.masks;
+        let others = other.masks;
+        let mut masks = [0; 3];
+        let mut i = 0;
+        while i < 3 {
+            masks[i] = old[i] | others[i];
+            i += 1;
+        }
+        SetDigest { masks }
+    }
+
+    pub fn add(self, g: u32) -> Self
+        ensures { λ r. ⌜ Says r (added g (bitsOf self)) ⌝ }
+    {
+        let old = self.masks;
+        let mut masks = [0; 3];
+        let mut i = 0;
+        while i < 3 {
+            masks[i] = mask::with(old[i], bit_of(i, g));
+            i += 1;
+        }
+        SetDigest { masks }
+    }
+
+    pub fn add_array(self, array: &[u32]) -> Self
+        ensures { λ r. ⌜ Says r (addedAll (now (array .entry)) (bitsOf self)) ⌝ }
+    {
+        let mut digest = self;
+        let mut i = 0;
+        while i < array.len() {
+            digest = digest.add(array[i]);
+            i += 1;
+        }
+        digest
+    }
+
+    pub fn add_range(self, a: u32, b: u32) -> Ranged
+        ensures { λ r. ⌜ Says (r .digest) (ranged a b (bitsOf self)) × (r .yes ≡ rangeYes a b (bitsOf self)) ⌝ }
+    {
+        if self.is_full() {
+            return Ranged {
+                digest: self,
+                yes: false,
+            };
+        }
+        let old = self.masks;
+        let mut masks = [0; 3];
+        let mut yes = false;
+        let mut i = 0;
+        while i < 3 {
+            masks[i] = old[i] | range_of(i, a, b);
+            yes = yes | !is_wide(i, a, b);
+            i += 1;
+        }
+        Ranged {
+            digest: SetDigest { masks },
+            yes,
+        }
+    }
+
+    pub fn may_have(self, g: u32) -> bool
+        ensures { λ r. ⌜ r ≡ mayHave (bitsOf self) g ⌝ }
+    {
+        let masks = self.masks;
+        let mut i = 0;
+        while i < 3 {
+            if !mask::has(masks[i], bit_of(i, g)) {
+                return false;
+            }
+            i += 1;
+        }
+        true
+    }
+
+    pub fn may_intersect(self, other: SetDigest) -> bool
+        ensures { λ r. ⌜ r ≡ mayIntersect (bitsOf self) (bitsOf other) ⌝ }
+    {
+        let masks = self.masks;
+        let others = other.masks;
+        let mut i = 0;
+        while i < 3 {
+            if !mask::meet(masks[i], others[i]) {
+                return false;
+            }
+            i += 1;
+        }
+        true
+    }
+
+    // Whether all three masks are full.
+    fn is_full(self) -> bool
+        ensures { λ r. ⌜ r ≡ full (bitsOf self) ⌝ }
+    {
+        let masks = self.masks;
+        let mut i = 0;
+        while i < 3 {
+            if !mask::is_full(masks[i]) {
+                return false;
+            }
+            i += 1;
+        }
+        true
+    }
+}
+
+// The glyph's bit in mask i.
+fn bit_of(i: usize, g: u32) -> u32
+    requires { ⌜ i < 3 ⌝ }
+    ensures { λ r. ⌜ (r ≡ place i g) × (r < 64) ⌝ }
+{
+    shifted(i, g) % 64
+}
+
+// The glyph at the shift of mask i.
+fn shifted(i: usize, g: u32) -> u32
+    requires { ⌜ i < 3 ⌝ }
+    ensures { λ r. ⌜ r ≡ g / 2 ^ shift i ⌝ }
+{
+    g >> SHIFTS[i]
+}
+
+// Whether a range takes all 64 bits of mask i.
+fn is_wide(i: usize, a: u32, b: u32) -> bool
+    requires { ⌜ i < 3 ⌝ }
+    ensures { λ r. ⌜ r ≡ wide i a b ⌝ }
+{
+    63 <= std::num::wrapping_sub_u64(shifted(i, b) as u64, shifted(i, a) as u64)
+}
+
+// The bits that a range sets in mask i.
+fn range_of(i: usize, a: u32, b: u32) -> u64
+    requires { ⌜ i < 3 ⌝ }
+    ensures { λ r. ⌜ ((k : ℕ) → k < 64 → bit k r ≡ (wide i a b || round (place i a) (place i b) k)) ⌝ }
+{
+    if is_wide(i, a, b) {
+        return mask::ALL;
+    }
+    mask::arc(bit_of(i, a), bit_of(i, b))
+}
