@@ -1,0 +1,38 @@
+-- Allowances: two numbers that only fall, one for work and one for bytes. (01, port order 2; budget.rs.)
+use mathlib.Core.Bool.{Bool}
+use Prim.Native.Nat.{ℕ, _-_, _*_, _^_, min, max}
+use lib.Dec.{ltb, leb}
+use Rattle.bits.specs.Bits.{cond}
+use Rattle.allowance.specs.declared.Budget.{Budget}
+use Rattle.allowance.specs.declared.Charge.{Charge}
+use Rattle.allowance.specs.declared.Charge.the-variants.{Taken, Exhausted}
+use Rattle.allowance.specs.declared.Charged.{Charged}
+
+-- the largest number of 64 bits
+abbrev pub most : ℕ
+most = 2 ^ 64 - 1
+
+-- the opening size: bytes × 256 saturating, held to 4,194,304 .. 134,217,728
+abbrev pub opening : ℕ → ℕ
+opening bytes = max 4194304 (min 134217728 (min most (bytes * 256)))
+
+abbrev pub opened : ℕ → ℕ → Budget
+opened work bytes = record { work = work; bytes = bytes }
+
+-- what is answered, beside what is left
+abbrev pub taken : Budget → Charged
+taken b = record { charge = Taken; left = b }
+
+abbrev pub exhausted : Budget → Charged
+exhausted b = record { charge = Exhausted; left = b }
+
+-- more than remains is Exhausted and takes nothing; anything else, 0 always, is taken
+unfoldable pub worked : ℕ → Budget → Charged
+worked visits b =
+    cond (leb visits (b .work)) (taken (opened (b .work - visits) (b .bytes))) (exhausted b)
+
+-- the same for count × size bytes; a product that passes 64 bits is Exhausted
+unfoldable pub allocated : ℕ → ℕ → Budget → Charged
+allocated count size b =
+    cond (ltb most (count * size)) (exhausted b)
+    (cond (leb (count * size) (b .bytes)) (taken (opened (b .work) (b .bytes - count * size))) (exhausted b))

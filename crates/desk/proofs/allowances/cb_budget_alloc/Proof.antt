@@ -1,0 +1,43 @@
+-- What the charge answers of the two numbers that were lent. Assumes nothing.
+use mathlib.Core.Path.{_≡_, ap, _∙_}
+use denote.Ref.{now}
+use Rattle.allowance.specs.declared.Budget.{Budget}
+use Rattle.allowance.specs.declared.Charged.{Charged}
+use Rattle.allowance.specs.Allowance.{worked, allocated}
+use Rattle.desk.specs.Allowances.{budgetOf, leftOf, wasTaken}
+use borrow.Author.Needs.{needs}
+use Rattle.desk.proofs.allowances.cb_budget_alloc.Statement.{statement}
+use Rattle.desk.proofs.allowances.cb_budget_alloc.Tie as tie
+
+element-copy-out-new : tie.Need-element-copy-out-new
+element-copy-out-new c = search needs
+
+element-copy-out-new-2 : tie.Need-element-copy-out-new-2
+element-copy-out-new-2 c = search needs
+
+new-requires : tie.Need-new-requires
+new-requires c κs = search needs
+
+alloc-requires : tie.Need-alloc-requires
+alloc-requires c κs = search needs
+
+taken-requires : tie.Need-taken-requires
+taken-requires c κs = search needs
+
+returns : tie.Need-returns
+returns c = let e : c .before .before .before .alloc .result ≡ allocated (c .before .before .before .before .before .before .before .args .count) (c .before .before .before .before .before .before .before .args .size) (budgetOf (now (c .before .before .before .before .before .before .before .args .left))) =
+    c .before .before .before .alloc .ensures ∙ ap (allocated (c .before .before .before .before .before .before .before .args .count) (c .before .before .before .before .before .before .before .args .size)) (c .before .before .before .before .new .ensures) in (
+      c .taken .ensures ∙ ap (λ (r : Charged). wasTaken (r .charge)) e,
+      ap (λ (r : Charged). leftOf (r .left)) e,
+    )
+
+pub cb-budget-alloc-spec : {M : Type 1} → statement M
+cb-budget-alloc-spec =
+    tie.close
+    (tie.spec
+    element-copy-out-new
+    element-copy-out-new-2
+    new-requires
+    alloc-requires
+    taken-requires
+    returns)
