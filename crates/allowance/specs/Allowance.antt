@@ -1,8 +1,7 @@
 -- Allowances: two numbers that only fall, one for work and one for bytes. (01, port order 2; budget.rs.)
-use mathlib.Core.Bool.{Bool}
+use mathlib.Core.Bool.{Bool, cond}
 use Prim.Native.Nat.{ℕ, _-_, _*_, _^_, min, max}
 use lib.Dec.{ltb, leb}
-use Rattle.bits.specs.Bits.{cond}
 use Rattle.allowance.specs.declared.Budget.{Budget}
 use Rattle.allowance.specs.declared.Charge.{Charge}
 use Rattle.allowance.specs.declared.Charge.the-variants.{Taken, Exhausted}

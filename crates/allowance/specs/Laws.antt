@@ -1,12 +1,11 @@
 -- What was taken plus what remains is what was opened, and Exhausted changes nothing.
-use mathlib.Core.Bool.{Bool, true, false}
+use mathlib.Core.Bool.{Bool, true, false, cond}
 use mathlib.Core.Path.{_≡_, refl, sym, ap, _∙_}
 use Prim.Native.Nat.{ℕ, _+_, _-_, _*_, _≤_, _<_}
 use native.Mathlib.Omega.{arith}
 use native.Mathlib.Nat.{le-trans, lt-of-le-of-lt}
 use lib.Dec.{ltb, leb}
 use borrow.Author.Tests.{le-leb, lt-leb, le-ltb, lt-ltb, leb-true, leb-false, ltb-true, ltb-false}
-use Rattle.bits.specs.Bits.{cond}
 use Rattle.allowance.specs.declared.Budget.{Budget}
 use Rattle.allowance.specs.declared.Charge.{Charge}
 use Rattle.allowance.specs.declared.Charge.the-variants.{Taken, Exhausted}

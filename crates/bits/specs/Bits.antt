@@ -1,12 +1,7 @@
--- Words that definitions are made of: one of two answers by a test, bit k of a number, a test of every number below n.
+-- Words that definitions are made of: bit k of a number, and a test of every number below n, or of some.
 use mathlib.Core.Bool.{Bool, true, false, _&&_, _||_}
 use Prim.Native.Nat.{ℕ, zero, suc, _/_, _%_, _^_}
 use lib.Dec.{eqb}
-
--- the first answer where the test is true, else the second
-abbrev pub cond : {A : Type 0} → Bool → A → A → A
-cond true a b = a
-cond false a b = b
 
 -- bit k of a number, counted from the lowest, which is bit 0
 abbrev pub bit : ℕ → ℕ → Bool

@@ -1,5 +1,5 @@
 -- Laws of every and some, and the bits of a sum by bits, of a power, and of a run of ones.
-use mathlib.Core.Bool.{Bool, true, false, not, _&&_, _||_, true≢false}
+use mathlib.Core.Bool.{Bool, true, false, not, cond, _&&_, _||_, true≢false}
 use mathlib.Core.Path.{_≡_, refl, sym, ap, _∙_}
 use mathlib.Core.Logic.{⊎-elim}
 use Prim.Native.Nat.{ℕ, zero, suc, _+_, _-_, _*_, _/_, _%_, _^_, min, max, _≤_, _<_}
@@ -9,7 +9,7 @@ use lib.Dec.{eqb, ltb, leb}
 use lib.Bits.{bitOr, bitAnd, or-shr, or-step, and-shr, and-step}
 use lib.Pow.{pow-pos, pow-lt, pow-add, shl-shr, shr-shr, shl-exact, high, ones-lt, ones-split, high-ones}
 use borrow.Author.Tests.{eq-eqb, ne-eqb, ltb-true, ltb-false, leb-true, leb-false, lt-ltb, le-ltb}
-use Rattle.bits.specs.Bits.{cond, bit, every, some}
+use Rattle.bits.specs.Bits.{bit, every, some}
 
 -- ---- both, either
 
@@ -31,13 +31,13 @@ pub or-right : (a b : Bool) → b ≡ true → (a || b) ≡ true
 or-right true b e = refl
 or-right false b e = e
 
-pub or-false : (a : Bool) → (a || false) ≡ a
-or-false true = refl
-or-false false = refl
+pub neither-left : (a b : Bool) → (a || b) ≡ false → a ≡ false
+neither-left true b e = e
+neither-left false b e = refl
 
-pub or-true : (a : Bool) → (a || true) ≡ true
-or-true true = refl
-or-true false = refl
+pub neither-right : (a b : Bool) → (a || b) ≡ false → b ≡ false
+neither-right true b e = absurd (true≢false e)
+neither-right false b e = e
 
 -- ---- every and some
 

@@ -1,6 +1,7 @@
 -- Numbers below 2 ^ n with the same n bits are the same, so that whoever says each bit has said the number.
 use mathlib.Core.Bool.{Bool, true, false, not, _&&_, true≢false}
 use mathlib.Core.Path.{_≡_, refl, sym, ap, _∙_}
+use mathlib.Core.Logic.{_↔_}
 use Prim.Native.Nat.{ℕ, zero, suc, _+_, _-_, _*_, _/_, _%_, _^_, _≤_, _<_}
 use native.Mathlib.Omega.{arith}
 use native.Mathlib.Nat.{lt-of-le-of-lt, div-one, div-div-eq-div-mul, mul-comm, pow-suc}
@@ -9,7 +10,7 @@ use lib.Bits.{bitAnd, and-le-l}
 use lib.Pow.{pow-pos, ones-lt}
 use borrow.Author.Tests.{eq-eqb, ne-eqb, lt-ltb}
 use Rattle.bits.specs.Bits.{bit, every, some}
-use Rattle.bits.specs.Laws.{and-bit, zero-bit, ones-bit, some-at, some-none, every-at, every-so}
+use Rattle.bits.specs.Laws.{and-both, and-bit, zero-bit, ones-bit, some-at, some-none, every-at, every-so}
 
 -- two numbers below 2 that test alike
 same-low : (x y : ℕ) → x < 2 → y < 2 → eqb x 1 ≡ eqb y 1 → x ≡ y
@@ -42,6 +43,15 @@ some-clear : (n : ℕ) (p : ℕ → Bool) (k : ℕ) (b : Bool) → p k ≡ b →
 some-clear n p k true e h f = absurd (true≢false (sym (some-at p n k h e) ∙ f))
 some-clear n p k false e h f = refl
 
+not-both : (s t : Bool) → (s ≡ true → t ≡ true → ⊥) → (s && t) ≡ false
+not-both true true h = absurd (h refl refl)
+not-both true false h = refl
+not-both false t h = refl
+
+below-power : (n : ℕ) → n < 2 ^ n
+below-power zero = pow-pos 0
+below-power (suc n) = rw (pow-suc 2 n) (omega (arith, below-power n))
+
 no-common : (n a b : ℕ) → a < 2 ^ n → some n (λ k. bit k a && bit k b) ≡ false → bitAnd a b ≡ 0
 no-common n a b h f =
     same-number n (bitAnd a b) 0 (lt-of-le-of-lt (and-le-l a b) h) (pow-pos n)
@@ -60,6 +70,13 @@ common-by n a b true h f =
 -- a bitwise AND is not 0 exactly when some bit is set in both
 pub common-bit : (n a b : ℕ) → a < 2 ^ n → not (eqb (bitAnd a b) 0) ≡ some n (λ k. bit k a && bit k b)
 common-bit n a b h = common-by n a b (some n (λ k. bit k a && bit k b)) h refl
+
+-- a bitwise AND is 0 exactly when no bit is set in both
+pub no-common-bit : (a b : ℕ) → (bitAnd a b ≡ 0) ↔ ((k : ℕ) → bit k a ≡ true → bit k b ≡ true → ⊥)
+no-common-bit a b = (
+  λ e k s t. true≢false (sym (and-both (bit k a) (bit k b) s t) ∙ sym (and-bit k a b) ∙ ap (bit k) e ∙ zero-bit k),
+  λ h. no-common a a b (below-power a) (some-none (λ k. bit k a && bit k b) a (λ k l. not-both (bit k a) (bit k b) (h k))),
+)
 
 full-by : (n m : ℕ) (t : Bool) → m < 2 ^ n → every n (λ k. bit k m) ≡ t → eqb m (2 ^ n - 1) ≡ t
 full-by n m true h f =

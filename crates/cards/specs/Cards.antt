@@ -1,9 +1,8 @@
 -- The starred bench cards: what the definitions give, and what the paper says. (01, "Bench cards".)
 -- Each answer is a list of lists of numbers, as the card reads from left to right; yes is 1.
-use mathlib.Core.Bool.{Bool}
+use mathlib.Core.Bool.{Bool, cond}
 use mathlib.Core.List.{List, [], _∷_}
 use Prim.Native.Nat.{ℕ, zero, suc}
-use Rattle.bits.specs.Bits.{cond}
 use Rattle.digest.specs.Digest.{Bits, none, added, ranged, mayHave}
 use Rattle.allowance.specs.Allowance.{opening}
 

@@ -1,6 +1,6 @@
 -- What a digest is for: whatever was added to it is admitted, by whichever call, and two that have no bit in common
 -- in some mask admit no glyph in common. (01, port order 1.)
-use mathlib.Core.Bool.{Bool, true, false, not, _&&_, _||_, true≢false}
+use mathlib.Core.Bool.{Bool, true, false, not, cond, _&&_, _||_, true≢false}
 use mathlib.Core.List.{List, [], _∷_}
 use mathlib.Core.Path.{_≡_, refl, sym, ap, _∙_}
 use mathlib.Core.Logic.{_⊎_, ⊎-elim}
@@ -11,7 +11,7 @@ use lib.Dec.{eqb, leb}
 use lib.ListN.{length, getD}
 use lib.Pow.{shr-mono, shr-le, pow-pos, shl-shr}
 use borrow.Author.Tests.{eq-eqb, le-leb, lt-leb, leb-true, leb-false}
-use Rattle.bits.specs.Bits.{cond, bit, every, some}
+use Rattle.bits.specs.Bits.{bit, every, some}
 use Rattle.bits.specs.Laws.{and-left, and-right, and-both, or-left, or-right, every-at, every-so, some-at}
 use Rattle.digest.specs.Digest.{Bits, shift, place, joined, added, addedAll, wide, round, ranged, mayHave, mayIntersect}
 

@@ -1,12 +1,12 @@
 -- A digest of a set of glyphs: three masks of 64 bits, at the shifts 4, 0 and 6. (01, port order 1; set_digest.rs.)
 -- Everything is said of bits: which bit k of which mask i is set.
-use mathlib.Core.Bool.{Bool, true, false, not, _&&_, _||_}
+use mathlib.Core.Bool.{Bool, true, false, not, cond, _&&_, _||_}
 use mathlib.Core.List.{List, [], _∷_}
 use mathlib.Core.Path.{_≡_}
 use Prim.Native.Nat.{ℕ, _+_, _-_, _/_, _%_, _^_, _<_}
 use lib.Dec.{eqb, leb}
 use lib.ListN.{getD}
-use Rattle.bits.specs.Bits.{cond, bit, every, some}
+use Rattle.bits.specs.Bits.{bit, every, some}
 use Rattle.digest.specs.declared.SetDigest.{SetDigest}
 
 -- bit k of mask i is set, or not

@@ -1,11 +1,11 @@
 -- Straight on, or up to bit 63 and on from bit 0. Assumes nothing.
-use mathlib.Core.Bool.{Bool, true, false, _&&_, _||_}
+use mathlib.Core.Bool.{Bool, true, false, cond, _&&_, _||_}
 use mathlib.Core.Path.{_≡_, refl, sym, ap, _∙_}
 use Prim.Native.Nat.{ℕ, _≤_, _<_}
 use native.Mathlib.Omega.{arith}
 use lib.Dec.{leb, leb·zero}
 use borrow.Author.Tests.{le-leb, lt-leb}
-use Rattle.bits.specs.Bits.{bit, cond}
+use Rattle.bits.specs.Bits.{bit}
 use Rattle.bits.specs.Laws.{or-bit}
 use borrow.Author.Needs.{needs}
 use Rattle.digest.proofs.mask.arc.Statement.{statement}

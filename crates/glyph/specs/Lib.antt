@@ -1,0 +1,6 @@
+pub mod Glyph
+pub mod Laws
+pub mod Lossless
+pub mod Reply
+pub mod Sets
+pub mod SetLaws

@@ -1,0 +1,74 @@
+-- A glyph keeps all of its words: writing them back gives the row, so rows of the same glyphs are the same words.
+use mathlib.Core.Path.{_≡_, refl, sym, ap, _∙_}
+use mathlib.Core.List.{List, [], _∷_, _++_}
+use Prim.Native.Nat.{ℕ, zero, suc, _+_, _*_, _/_, _%_, _≤_, _<_}
+use native.Mathlib.Omega.{arith}
+use lib.ListN.{length, getD, take, drop, length-drop, take-append-drop}
+use lib.Seq.{drop-cons, drop-length, getD-take, getD-drop, length-take-le}
+use Rattle.glyph.specs.declared.Glyph.{Glyph}
+use Rattle.glyph.specs.Glyph.{words, glyphOf, glyphsOf, Row}
+use Rattle.glyph.specs.Laws.{glyphsOf-nil, glyphsOf-cons, length-row}
+
+-- the words of a glyph
+unfoldable pub wordsOf : Glyph → List ℕ
+wordsOf g =
+    g .id ∷
+    g .mask ∷
+    (g .flags * 16777216 + g .syllable * 65536 + g .props) ∷
+    (g .lig * 16777216 + g .comp * 65536 + g .count * 256 + g .ligated) ∷
+    []
+
+-- the words of a list of glyphs
+unfoldable pub rowOf : List Glyph → List ℕ
+rowOf [] = []
+rowOf (g ∷ gs) = wordsOf g ++ rowOf gs
+
+-- words of 32 bits
+abbrev pub Small : List ℕ → Type 0
+Small w = (k : ℕ) → getD w k 0 < 4294967296
+
+halves : (x : ℕ) → x < 4294967296 → x / 16777216 % 256 * 16777216 + x / 65536 % 256 * 65536 + x % 65536 ≡ x
+halves x h = omega arith
+
+low : (x : ℕ) → x / 256 % 256 * 256 + x % 256 ≡ x % 65536
+low x = omega arith
+
+bytes : (x : ℕ) → x < 4294967296 → x / 16777216 % 256 * 16777216 + x / 65536 % 256 * 65536 + x / 256 % 256 * 256 + x % 256 ≡ x
+bytes x h = omega (arith, halves x h, low x)
+
+-- n words from word k on, one by one
+abbrev spelled : ℕ → ℕ → List ℕ → List ℕ
+spelled zero k w = []
+spelled (suc n) k w = getD w k 0 ∷ spelled n (suc k) w
+
+spelled-is : (n k : ℕ) (w : List ℕ) → k + n ≡ length w → spelled n k w ≡ drop k w
+spelled-is zero k w e =
+    let f : k ≡ length w = omega arith in
+    rw f (sym (drop-length w))
+spelled-is (suc n) k w e =
+    ap (λ (r : List ℕ). getD w k 0 ∷ r) (spelled-is n (suc k) w (omega arith)) ∙ sym (drop-cons w k 0 (omega arith))
+
+pub words-back : (w : List ℕ) → length w ≡ words → ((k : ℕ) → k < words → getD w k 0 < 4294967296) → wordsOf (glyphOf w) ≡ w
+unfolding wordsOf
+words-back w e h =
+    (λ j. getD w 0 0 ∷ getD w 1 0 ∷ halves (getD w 2 0) (h 2 (omega arith)) j ∷ bytes (getD w 3 0) (h 3 (omega arith)) j ∷ [])
+    ∙ spelled-is words 0 w (omega arith)
+
+pub row-back : (n : ℕ) (w : List ℕ) → Row n w → Small w → rowOf (glyphsOf w) ≡ w
+unfolding rowOf
+row-back zero [] e h = rw glyphsOf-nil
+row-back zero (x ∷ w) e h = let z : ⊥ = omega arith in absurd z
+row-back (suc n) w e h =
+    let l : words ≤ length w = omega arith in
+    let a : length (take words w) ≡ words = length-take-le words w l in
+    let b : Row n (drop words w) = simp length-drop (omega arith) in
+    rw (
+      glyphsOf-cons w l,
+      words-back (take words w) a (λ k m. rw (getD-take words w k 0 m) (h k)),
+      row-back n (drop words w) b (λ k. rw (getD-drop words w k 0) (h (words + k))),
+    )
+    (take-append-drop words w)
+
+-- rows of the same glyphs are the same
+pub same-row : (n : ℕ) (v w : List ℕ) → Row n v → Row n w → Small v → Small w → glyphsOf v ≡ glyphsOf w → v ≡ w
+same-row n v w a b h k e = sym (row-back n v a h) ∙ ap rowOf e ∙ row-back n w b k

@@ -1,0 +1,96 @@
+// A row is a lent slice of words, WORDS of them a glyph. Only this crate knows where a glyph's words stand.
+ghost use mathlib.Core.Path.{_≡_};
+ghost use Prim.Native.Nat.{_≤_, _<_};
+ghost use lib.ListN.{length, getD, take, drop};
+ghost use Rattle.glyph.specs.Glyph.{glyphsOf, blank, illShaped};
+ghost use Rattle.glyph.specs.Sets.{inSet, oddSets};
+
+pub const WORDS: usize = 4;
+
+pub const LIMIT: usize = 1024;
+
+pub struct Glyph {
+    pub id: u32,
+    pub mask: u32,
+    pub flags: u8,
+    pub syllable: u8,
+    pub props: u16,
+    pub lig: u8,
+    pub comp: u8,
+    pub count: u8,
+    pub ligated: u8,
+}
+
+// How many glyphs a row has.
+pub fn count(row: &[u32]) -> usize
+    ensures { λ r. ⌜ r ≡ length (glyphsOf (now (row .entry))) ⌝ }
+{
+    row.len() / WORDS
+}
+
+// A row that isn't whole glyphs, or has too many: refusal 1.
+pub fn is_ill_shaped(row: &[u32]) -> bool
+    ensures { λ r. ⌜ r ≡ illShaped (now (row .entry)) ⌝ }
+{
+    (row.len() % WORDS != 0) | (LIMIT < count(row))
+}
+
+// Glyph i of a row that has it, with no test.
+pub fn read(row: &[u32], i: usize) -> Glyph
+    requires { ⌜ i < length (glyphsOf (now row)) ⌝ }
+    ensures { λ r. ⌜ r ≡ getD (glyphsOf (now (row .entry))) i blank ⌝ }
+{
+    let k = WORDS * i;
+    let info = row[k + 2];
+    let lig = row[k + 3];
+    Glyph {
+        id: row[k],
+        mask: row[k + 1],
+        flags: (info / 16777216 % 256) as u8,
+        syllable: (info / 65536 % 256) as u8,
+        props: (info % 65536) as u16,
+        lig: (lig / 16777216 % 256) as u8,
+        comp: (lig / 65536 % 256) as u8,
+        count: (lig / 256 % 256) as u8,
+        ligated: (lig % 256) as u8,
+    }
+}
+
+// The first k glyphs of a row, as a part of it.
+pub fn first(row: &[u32], k: usize) -> &[u32]
+    requires { ⌜ k ≤ length (glyphsOf (now row)) ⌝ }
+    ensures { λ r. ⌜ glyphsOf (now r) ≡ take k (glyphsOf (now (row .entry))) ⌝ }
+{
+    let x = WORDS * k;
+    &row[0..x]
+}
+
+// The glyphs of a row from glyph k on, as a part of it.
+pub fn onward(row: &[u32], k: usize) -> &[u32]
+    requires { ⌜ k ≤ length (glyphsOf (now row)) ⌝ }
+    ensures { λ r. ⌜ glyphsOf (now r) ≡ drop k (glyphsOf (now (row .entry))) ⌝ }
+{
+    let x = WORDS * k;
+    &row[x..]
+}
+
+// Mark sets with a lone last word: refusal 1.
+pub fn is_odd(sets: &[u16]) -> bool
+    ensures { λ r. ⌜ r ≡ oddSets (now (sets .entry)) ⌝ }
+{
+    sets.len() % 2 != 0
+}
+
+// Whether the mark sets have the pair (set, id).
+pub fn in_set(sets: &[u16], set: u32, id: u32) -> bool
+    ensures { λ r. ⌜ r ≡ inSet (now (sets .entry)) set id ⌝ }
+{
+    let mut i = 0;
+    while i + 1 < sets.len() {
+        if (sets[i] as u32 == set) & (sets[i + 1] as u32 == id) {
+            return true;
+        }
+        i += 2;
+    }
+    false
+}

@@ -1,0 +1,58 @@
+-- The verdict in two parts: skip Yes is passed over, and the rest is told without the mark sets.
+use Prim.Native.Nat.{ℕ, _<_}
+use mathlib.Core.List.{List}
+use mathlib.Core.Path.{_≡_, refl, sym, _∙_}
+use mathlib.Core.Bool.{Bool, true, false, cond}
+use borrow.Author.Tests.{leb-false}
+use lib.Dec.{leb}
+use lib.ListN.{length, getD}
+use Rattle.glyph.specs.declared.Glyph.{Glyph}
+use Rattle.glyph.specs.Glyph.{glyphsOf, blank, illShaped}
+use Rattle.bits.specs.Laws.{neither-right}
+use Rattle.verdict.specs.declared.Matcher.{Matcher}
+use Rattle.verdict.specs.declared.Sign.{Sign}
+use Rattle.verdict.specs.declared.MaySkip.{MaySkip}
+use Rattle.verdict.specs.declared.MayMatch.{MayMatch}
+use Rattle.verdict.specs.declared.Verdict.{Verdict}
+use Rattle.verdict.specs.declared.Verdict.the-variants.{Match, NotMatch, Skip}
+use Rattle.verdict.specs.Verdict.{skipYes, ignorable, skipOf, matchOf, verdict, verdictOf, restOf, judgeAt}
+use Rattle.verdict.specs.Ask.{badPlace}
+
+module _ (m : Matcher) (sign : Sign) (syllable : ℕ) (sets : List ℕ) (g : Glyph) where
+  pub verdict-yes : skipYes m sets g ≡ true → verdict m sign syllable sets g ≡ Skip
+  unfolding verdict skipOf
+  verdict-yes e = rw e
+
+  pub verdict-rest : skipYes m sets g ≡ false → verdict m sign syllable sets g ≡ restOf m sign syllable g
+  unfolding verdict skipOf restOf
+  verdict-rest e = rw e
+
+-- the verdict on place p, from the glyph read there and what the code was told of it
+module _ (m : Matcher) (sign : Sign) (syllable : ℕ) (sets : List ℕ) (gs : List Glyph) (p : ℕ) where
+  pub judged-yes : (g : Glyph) (b : Bool) → g ≡ getD gs p blank → b ≡ skipYes m sets g → b ≡ true
+      → judgeAt m sign syllable sets gs p ≡ Skip
+  judged-yes g b read told e = rw (← read) (verdict-yes m sign syllable sets g (sym told ∙ e))
+
+  pub judged-rest : (g : Glyph) (b : Bool) (r : Verdict) → g ≡ getD gs p blank → b ≡ skipYes m sets g → b ≡ false
+      → r ≡ restOf m sign syllable g → judgeAt m sign syllable sets gs p ≡ r
+  judged-rest g b r read told e rest = rw (← read) (verdict-rest m sign syllable sets g (sym told ∙ e) ∙ sym rest)
+
+-- the verdict by may match, where skip is Maybe or No
+pub weighed-no : (s : Bool) → cond s Skip NotMatch ≡ verdictOf (cond s MaySkip.Maybe MaySkip.No) MayMatch.No
+weighed-no true = refl
+weighed-no false = refl
+
+pub weighed-yes : (s : Bool) → Match ≡ verdictOf (cond s MaySkip.Maybe MaySkip.No) MayMatch.Yes
+weighed-yes true = refl
+weighed-yes false = refl
+
+pub weighed-maybe : (s : Bool) → cond s Skip Match ≡ verdictOf (cond s MaySkip.Maybe MaySkip.No) MayMatch.Maybe
+weighed-maybe true = refl
+weighed-maybe false = refl
+
+-- ---- what a question that isn't refused may count on
+
+pub good-place : (row : List ℕ) (place : ℕ) → badPlace row place ≡ false → place < length (glyphsOf row)
+unfolding badPlace
+good-place row place e =
+    leb-false (length (glyphsOf row)) place (neither-right (illShaped row) (leb (length (glyphsOf row)) place) e)

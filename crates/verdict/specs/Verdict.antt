@@ -1,0 +1,112 @@
+-- Whether a glyph may be skipped, whether it may match, and the verdict on it (01, port order 3).
+use Prim.Native.Nat.{ℕ, _/_, _%_}
+use mathlib.Core.List.{List}
+use mathlib.Core.Bool.{Bool, true, false, not, cond, _&&_, _||_}
+use lib.Dec.{eqb}
+use lib.Bits.{bitAnd}
+use lib.ListN.{getD}
+use Rattle.bits.specs.Bits.{bit}
+use Rattle.glyph.specs.declared.Glyph.{Glyph}
+use Rattle.glyph.specs.Glyph.{blank}
+use Rattle.glyph.specs.Sets.{inSet}
+use Rattle.verdict.specs.declared.Matcher.{Matcher}
+use Rattle.verdict.specs.declared.MaySkip.{MaySkip}
+use Rattle.verdict.specs.declared.MayMatch.{MayMatch}
+use Rattle.verdict.specs.declared.Test.{Test}
+use Rattle.verdict.specs.declared.Test.the-variants.{Equal, Any, Nothing}
+use Rattle.verdict.specs.declared.Sign.{Sign}
+use Rattle.verdict.specs.declared.Verdict.{Verdict}
+use Rattle.verdict.specs.declared.Verdict.the-variants.{Match, NotMatch, Skip}
+
+-- ---- may skip
+
+-- OpenType, chapter GDEF, glyph class definitions: base 2, ligature 4, mark 8 of a glyph's props.
+-- OpenType, chapter "OpenType Layout common table formats", LookupFlag: 2, 4, 8 of the lookup's props ignore those classes.
+abbrev pub ignoredClass : ℕ → ℕ → Bool
+ignoredClass asked props = ((bit 1 props && bit 1 asked) || (bit 2 props && bit 2 asked)) || (bit 3 props && bit 3 asked)
+
+abbrev pub isMark : ℕ → Bool
+isMark props = bit 3 props
+
+-- LookupFlag, 0x0010: the lookup uses a mark filtering set, which the high half of its props names
+abbrev pub usesSet : ℕ → Bool
+usesSet asked = bit 4 asked
+
+abbrev pub setNamed : ℕ → ℕ
+setNamed asked = asked / 65536
+
+-- LookupFlag, 0xFF00: the mark attachment class that the lookup asks
+abbrev pub classAsked : ℕ → ℕ
+classAsked asked = asked / 256 % 256
+
+-- chapter GDEF, mark attachment classes: the high byte of a glyph's props
+abbrev pub classOf : ℕ → ℕ
+classOf props = props / 256
+
+-- LookupFlag, a filtering set goes before an attachment class:
+-- a mark outside the named set, or, with flag 0x10 clear and a nonzero class asked, a mark of another class
+abbrev pub otherMark : ℕ → List ℕ → ℕ → ℕ → Bool
+otherMark asked sets props id =
+    isMark props
+    && cond (usesSet asked)
+    (not (inSet sets (setNamed asked) id))
+    (not (eqb (classAsked asked) 0) && not (eqb (classAsked asked) (classOf props)))
+
+-- skip Yes: an ignored class, else a mark that the lookup passes over
+unfoldable pub skipYes : Matcher → List ℕ → Glyph → Bool
+skipYes m sets g = ignoredClass (m .props) (g .props) || otherMark (m .props) sets (g .props) (g .id)
+
+-- flags 1 default ignorable, 2 ZWNJ, 4 ZWJ, 8 hidden:
+-- default ignorable, and neither a ZWNJ, ZWJ nor hidden glyph that isn't ignored
+abbrev pub ignorableBy : Bool → Bool → Bool → ℕ → Bool
+ignorableBy zwnj zwj hidden flags =
+    ((bit 0 flags && (zwnj || not (bit 1 flags))) && (zwj || not (bit 2 flags))) && (hidden || not (bit 3 flags))
+
+unfoldable pub ignorable : Matcher → Glyph → Bool
+ignorable m g = ignorableBy (m .zwnj) (m .zwj) (m .hidden) (g .flags)
+
+unfoldable pub skipOf : Matcher → List ℕ → Glyph → MaySkip
+skipOf m sets g = cond (skipYes m sets g) MaySkip.Yes (cond (ignorable m g) MaySkip.Maybe MaySkip.No)
+
+-- ---- may match
+
+-- mask AND matcher mask is 0, or syllables are tested and the starting syllable is nonzero and differs
+unfoldable pub ruledOut : Matcher → ℕ → Glyph → Bool
+ruledOut m syllable g =
+    eqb (bitAnd (g .mask) (m .mask)) 0
+    || ((m .syllabic && not (eqb syllable 0)) && not (eqb syllable (g .syllable)))
+
+-- Yes or No by the value (equal id, or any), or Maybe where no test is set
+abbrev pub valueBy : Test → ℕ → Glyph → MayMatch
+valueBy Equal value g = cond (eqb (g .id) value) MayMatch.Yes MayMatch.No
+valueBy Any value g = MayMatch.Yes
+valueBy Nothing value g = MayMatch.Maybe
+
+unfoldable pub valueOf : Sign → Glyph → MayMatch
+valueOf sign g = valueBy (sign .test) (sign .value) g
+
+unfoldable pub matchOf : Matcher → Sign → ℕ → Glyph → MayMatch
+matchOf m sign syllable g = cond (ruledOut m syllable g) MayMatch.No (valueOf sign g)
+
+-- ---- the verdict
+
+-- skip Yes is passed over; else Yes matches, and Maybe matches under skip No; else skip No stops and Maybe is passed over
+abbrev pub verdictOf : MaySkip → MayMatch → Verdict
+verdictOf MaySkip.Yes m = Skip
+verdictOf MaySkip.No MayMatch.Yes = Match
+verdictOf MaySkip.Maybe MayMatch.Yes = Match
+verdictOf MaySkip.No MayMatch.Maybe = Match
+verdictOf MaySkip.No MayMatch.No = NotMatch
+verdictOf MaySkip.Maybe MayMatch.No = Skip
+verdictOf MaySkip.Maybe MayMatch.Maybe = Skip
+
+unfoldable pub verdict : Matcher → Sign → ℕ → List ℕ → Glyph → Verdict
+verdict m sign syllable sets g = verdictOf (skipOf m sets g) (matchOf m sign syllable g)
+
+-- the verdict on a glyph that isn't skip Yes
+unfoldable pub restOf : Matcher → Sign → ℕ → Glyph → Verdict
+restOf m sign syllable g = verdictOf (cond (ignorable m g) MaySkip.Maybe MaySkip.No) (matchOf m sign syllable g)
+
+-- the judge of the places of a list of glyphs
+abbrev pub judgeAt : Matcher → Sign → ℕ → List ℕ → List Glyph → ℕ → Verdict
+judgeAt m sign syllable sets gs i = verdict m sign syllable sets (getD gs i blank)

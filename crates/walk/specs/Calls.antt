@@ -1,0 +1,36 @@
+-- The two walks that a user calls: on a row of words and a place, answered or refused by 1 (01, port order 4, and its table of refusals).
+use Prim.Native.Nat.{ℕ, _+_}
+use mathlib.Core.List.{List, [], _∷_}
+use mathlib.Core.Bool.{Bool, cond, _||_}
+use lib.Dec.{ltb}
+use lib.ListN.{length}
+use Rattle.glyph.specs.Glyph.{glyphsOf, illShaped}
+use Rattle.glyph.specs.Sets.{oddSets}
+use Rattle.glyph.specs.Reply.{Reply}
+use Rattle.verdict.specs.declared.Matcher.{Matcher}
+use Rattle.verdict.specs.declared.Sign.{Sign}
+use Rattle.verdict.specs.Verdict.{judgeAt}
+use Rattle.walk.specs.declared.Walked.{Walked}
+use Rattle.walk.specs.declared.Walked.the-variants.{Found, Stopped, RanOut, Refused}
+use Rattle.walk.specs.Walk.{walkFrom, walkBack}
+
+-- refusal 1: a row not whole glyphs or over the limit, len past its row, a walk's place past len, odd mark sets
+unfoldable pub badWalk : List ℕ → ℕ → ℕ → List ℕ → Bool
+badWalk row len place sets = ((illShaped row || ltb (length (glyphsOf row)) len) || ltb len place) || oddSets sets
+
+-- forward from a place, the next glyph tested is one later
+unfoldable pub forwardOf : List ℕ → ℕ → ℕ → Matcher → Sign → ℕ → List ℕ → Walked
+forwardOf row len place m sign syllable sets =
+    cond (badWalk row len place sets) Refused (walkFrom (judgeAt m sign syllable sets (glyphsOf row)) len (place + 1))
+
+-- backward, every glyph of the row counts
+unfoldable pub backwardOf : List ℕ → ℕ → Matcher → Sign → ℕ → List ℕ → Walked
+backwardOf row place m sign syllable sets =
+    cond (badWalk row (length (glyphsOf row)) place sets) Refused (walkBack (judgeAt m sign syllable sets (glyphsOf row)) place)
+
+-- number and values of each case; 01 gives found no number, 0 is our choice
+abbrev pub walkReply : Walked → Reply
+walkReply (Found p) = record { number = 0; values = p ∷ [] }
+walkReply (Stopped extent) = record { number = 4; values = extent ∷ [] }
+walkReply (RanOut extent) = record { number = 4; values = extent ∷ [] }
+walkReply Refused = record { number = 1; values = [] }

@@ -1,0 +1,29 @@
+-- The walks a place at a time: what a turn of the code's loops does, and where they end.
+use Prim.Native.Nat.{ℕ, suc, _+_, _-_, _≤_, _<_}
+use mathlib.Core.Path.{_≡_, ap}
+use native.Mathlib.Omega.{arith}
+use Rattle.verdict.specs.declared.Verdict.{Verdict}
+use Rattle.walk.specs.declared.Walked.the-variants.{RanOut}
+use Rattle.walk.specs.Walk.{after, walk, walkFrom, afterBack, walkBack}
+
+module _ (v : ℕ → Verdict) (len next : ℕ) where
+  pub walk-on : next < len → walkFrom v len next ≡ after (v next) next (walkFrom v len (next + 1))
+  unfolding walkFrom walk
+  walk-on h =
+      let left : len - next ≡ suc (len - (next + 1)) = omega arith in
+      ap (λ (n : ℕ). walk v n next) left
+
+  pub walk-end : len ≤ next → walkFrom v len next ≡ RanOut next
+  unfolding walkFrom walk
+  walk-end h =
+      let left : len - next ≡ 0 = omega arith in
+      ap (λ (n : ℕ). walk v n next) left
+
+module _ (v : ℕ → Verdict) (place : ℕ) where
+  pub back-on : (p : ℕ) → place ≡ suc p → walkBack v place ≡ afterBack (v p) p (walkBack v p)
+  unfolding walkBack
+  back-on p e = ap (walkBack v) e
+
+  pub back-end : place ≡ 0 → walkBack v place ≡ RanOut 0
+  unfolding walkBack
+  back-end e = ap (walkBack v) e

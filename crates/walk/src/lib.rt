@@ -1,0 +1,127 @@
+// The walks: forward and backward over a row, to the next glyph that isn't passed over.
+use verdict::Matcher;
+use verdict::Sign;
+use verdict::Verdict;
+ghost use mathlib.Core.Path.{_≡_};
+ghost use Prim.Native.Nat.{_-_, _≤_, max};
+ghost use lib.ListN.{length};
+ghost use Rattle.glyph.specs.Glyph.{glyphsOf};
+ghost use Rattle.verdict.specs.Verdict.{judgeAt};
+ghost use Rattle.walk.specs.Walk.{walkFrom, walkBack};
+ghost use Rattle.walk.specs.Calls.{badWalk, forwardOf, backwardOf};
+
+pub enum Walked {
+    // The place of a glyph that matches.
+    Found(usize),
+    // A glyph that stops the walk, by the walk's extent.
+    Stopped(usize),
+    // No glyph is left, by the walk's extent.
+    RanOut(usize),
+    // Refusal 1.
+    Refused,
+}
+
+// From a place of a row, of which the first len glyphs count, to the next glyph that isn't passed over.
+pub fn forward(
+    row: &[u32],
+    len: usize,
+    place: usize,
+    m: Matcher,
+    sign: Sign,
+    syllable: u8,
+    sets: &[u16],
+) -> Walked
+    ensures { λ r. ⌜ r ≡ forwardOf (now (row .entry)) len place m sign syllable (now (sets .entry)) ⌝ }
+{
+    if is_bad_walk(row, len, place, sets) {
+        return Walked::Refused;
+    }
+    forward_from(row, len, place + 1, m, sign, syllable, sets)
+}
+
+// Back from a place of a row, to the glyph before it that isn't passed over.
+pub fn backward(
+    row: &[u32],
+    place: usize,
+    m: Matcher,
+    sign: Sign,
+    syllable: u8,
+    sets: &[u16],
+) -> Walked
+    ensures { λ r. ⌜ r ≡ backwardOf (now (row .entry)) place m sign syllable (now (sets .entry)) ⌝ }
+{
+    if is_bad_walk(row, glyph::count(row), place, sets) {
+        return Walked::Refused;
+    }
+    backward_from(row, place, m, sign, syllable, sets)
+}
+
+// What a walk is refused for.
+fn is_bad_walk(row: &[u32], len: usize, place: usize, sets: &[u16]) -> bool
+    ensures { λ r. ⌜ r ≡ badWalk (now (row .entry)) len place (now (sets .entry)) ⌝ }
+{
+    glyph::is_ill_shaped(row) | (glyph::count(row) < len) | (len < place) | glyph::is_odd(sets)
+}
+
+// The forward walk, given the next place to test, so that it can begin before the first glyph of a part of a row.
+pub fn forward_from(
+    row: &[u32],
+    len: usize,
+    next: usize,
+    m: Matcher,
+    sign: Sign,
+    syllable: u8,
+    sets: &[u16],
+) -> Walked
+    requires { ⌜ len ≤ length (glyphsOf (now row)) ⌝ }
+    ensures { λ r. ⌜ r ≡ walkFrom (judgeAt m sign syllable (now (sets .entry)) (glyphsOf (now (row .entry)))) len next ⌝ }
+{
+    let mut ahead = next;
+    while ahead < len {
+        let p = ahead;
+        ahead += 1;
+        let g = glyph::read(row, p);
+        if !verdict::is_skip_yes(m, sets, g) {
+            match verdict::on_rest(m, sign, syllable, g) {
+                Verdict::Match => return Walked::Found(p),
+                Verdict::NotMatch => return Walked::Stopped(ahead),
+                Verdict::Skip => {}
+            }
+        }
+    }
+    Walked::RanOut(ahead)
+}
+
+// The extent of a backward walk that is stopped at p.
+fn back_extent(p: usize) -> usize
+    ensures { λ r. ⌜ r ≡ max p 1 - 1 ⌝ }
+{
+    if p == 0 { 0 } else { p - 1 }
+}
+
+// The backward walk: the next place to test is the one before `place`.
+pub fn backward_from(
+    row: &[u32],
+    place: usize,
+    m: Matcher,
+    sign: Sign,
+    syllable: u8,
+    sets: &[u16],
+) -> Walked
+    requires { ⌜ place ≤ length (glyphsOf (now row)) ⌝ }
+    ensures { λ r. ⌜ r ≡ walkBack (judgeAt m sign syllable (now (sets .entry)) (glyphsOf (now (row .entry)))) place ⌝ }
+{
+    let mut p = place;
+    while 0 < p {
+        p -= 1;
+        let g = glyph::read(row, p);
+        if !verdict::is_skip_yes(m, sets, g) {
+            match verdict::on_rest(m, sign, syllable, g) {
+                Verdict::Match => return Walked::Found(p),
+                Verdict::NotMatch => return Walked::Stopped(back_extent(p)),
+                Verdict::Skip => {}
+            }
+        }
+    }
+    Walked::RanOut(0)
+}
