@@ -24,11 +24,20 @@ struct Replayed {
 }
 
 fn main() {
-    let mut text = [0u8; 1048576];
+    let mut text = text_room();
     let n = io::read_full(0, &mut text);
-    let mut words = [0u32; 116508];
+    let mut words = word_room();
     let count = stored::decode(&text[..n], &mut words);
     report(replay(&words, count));
+}
+
+// Room for a whole list, and for its words.
+fn text_room() -> [u8; 1048576] {
+    [0; 1048576]
+}
+
+fn word_room() -> [u32; 116508] {
+    [0; 116508]
 }
 
 fn report(t: Tally) {
@@ -53,7 +62,10 @@ fn replay(words: &[u32], count: usize) -> Tally {
     };
     let mut at = 0;
     let mut left = count;
-    while (at < count) & (0 < left) {
+    while 0 < left {
+        if count <= at {
+            return tally;
+        }
         let line = one(words, at);
         tally = counted(tally, word(words, at), line.right);
         at = line.next;
