@@ -13,7 +13,8 @@ use lib.Pow.{shr-mono, shr-le, pow-pos, shl-shr}
 use borrow.Author.Tests.{eq-eqb, le-leb, lt-leb, leb-true, leb-false}
 use Rattle.bits.specs.Bits.{bit, every, some}
 use Rattle.bits.specs.Laws.{and-left, and-right, and-both, or-left, or-right, every-at, every-so, some-at}
-use Rattle.digest.specs.Digest.{Bits, shift, place, joined, added, addedAll, wide, round, ranged, mayHave, mayIntersect}
+use Rattle.mask.specs.Mask.{round}
+use Rattle.digest.specs.Digest.{Bits, shift, place, joined, added, addedAll, wide, ranged, mayHave, mayIntersect}
 
 -- every bit of the first is a bit of the second
 abbrev pub Within : Bits → Bits → Type 0

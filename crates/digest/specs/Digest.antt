@@ -7,6 +7,7 @@ use Prim.Native.Nat.{ℕ, _+_, _-_, _/_, _%_, _^_, _<_}
 use lib.Dec.{eqb, leb}
 use lib.ListN.{getD}
 use Rattle.bits.specs.Bits.{bit, every, some}
+use Rattle.mask.specs.Mask.{round}
 use Rattle.digest.specs.declared.SetDigest.{SetDigest}
 
 -- bit k of mask i is set, or not
@@ -47,10 +48,6 @@ addedAll (g ∷ gs) f = addedAll gs (added g f)
 -- the difference of the shifted ends, wrapping on 64 bits, is at least 63
 abbrev pub wide : ℕ → ℕ → ℕ → Bool
 wide i a b = leb 63 ((b / 2 ^ shift i + 2 ^ 64 - a / 2 ^ shift i) % 2 ^ 64)
-
--- k is met on the way from bit a up to bit b, which goes round past bit 63 where b is below a
-abbrev pub round : ℕ → ℕ → ℕ → Bool
-round a b k = cond (leb a b) (leb a k && leb k b) (leb a k || leb k b)
 
 -- the bits from a's round to b's are set too, or all 64 where the range is wide
 unfoldable pub ranged : ℕ → ℕ → Bits → Bits

@@ -1,12 +1,12 @@
 // Digests of sets of glyphs and of rules' values: small sums that say "not in it" for certain, or "maybe".
-mod mask;
 pub mod rule;
 
 ghost use mathlib.Core.Path.{_≡_};
 ghost use mathlib.Core.Bool.{_||_};
 ghost use Prim.Native.Nat.{ℕ, _/_, _^_, _<_};
 ghost use Rattle.bits.specs.Bits.{bit};
-ghost use Rattle.digest.specs.Digest.{Says, bitsOf, shift, place, wide, round, none, all, joined, added, addedAll, ranged, full, rangeYes, mayHave, mayIntersect};
+ghost use Rattle.mask.specs.Mask.{round};
+ghost use Rattle.digest.specs.Digest.{Says, bitsOf, shift, place, wide, none, all, joined, added, addedAll, ranged, full, rangeYes, mayHave, mayIntersect};
 
 const SHIFTS: [u32; 3] = [4, 0, 6];
 
@@ -62,7 +62,7 @@ impl SetDigest {
         let mut masks = [0; 3];
         let mut i = 0;
         while i < 3 {
-            masks[i] = mask::with(old[i], bit_of(i, g));
+            masks[i] = mask::with(old[i], shifted(i, g));
             i += 1;
         }
         SetDigest { masks }
@@ -110,7 +110,7 @@ impl SetDigest {
         let masks = self.masks;
         let mut i = 0;
         while i < 3 {
-            if !mask::has(masks[i], bit_of(i, g)) {
+            if !mask::has(masks[i], shifted(i, g)) {
                 return false;
             }
             i += 1;
@@ -149,14 +149,6 @@ impl SetDigest {
     }
 }
 
-// The glyph's bit in mask i.
-fn bit_of(i: usize, g: u32) -> u32
-    requires { ⌜ i < 3 ⌝ }
-    ensures { λ r. ⌜ (r ≡ place i g) × (r < 64) ⌝ }
-{
-    shifted(i, g) % 64
-}
-
 // The glyph at the shift of mask i.
 fn shifted(i: usize, g: u32) -> u32
     requires { ⌜ i < 3 ⌝ }
@@ -181,5 +173,5 @@ fn range_of(i: usize, a: u32, b: u32) -> u64
     if is_wide(i, a, b) {
         return mask::ALL;
     }
-    mask::arc(bit_of(i, a), bit_of(i, b))
+    mask::arc(shifted(i, a), shifted(i, b))
 }

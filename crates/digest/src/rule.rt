@@ -1,5 +1,4 @@
 // A digest of the values that a set of rules can start with: one mask on the value mod 64.
-use crate::mask;
 ghost use mathlib.Core.Path.{_≡_};
 ghost use mathlib.Core.Bool.{true, false};
 ghost use Prim.Native.Nat.{_%_};
@@ -26,7 +25,7 @@ impl RuleSetDigest {
         ensures { λ r. ⌜ RuleSays r (ruleAdded value (ruleBits self)) ⌝ }
     {
         RuleSetDigest {
-            mask: mask::with(self.mask, value % 64),
+            mask: mask::with(self.mask, value),
         }
     }
 
@@ -39,6 +38,6 @@ impl RuleSetDigest {
     pub fn may_have(self, value: u32) -> bool
         ensures { λ r. ⌜ r ≡ ruleMayHave (ruleBits self) value ⌝ }
     {
-        mask::has(self.mask, value % 64)
+        mask::has(self.mask, value)
     }
 }

@@ -12,19 +12,19 @@ is-wide-requires c κs = search needs
 returns : tie.Need-returns
 returns c = λ k h. ones-bit 64 k ∙ lt-ltb k 64 h ∙ rw (← c .before .is-wide .ensures, c .if1 .taken)
 
-bit-of-requires : tie.Need-bit-of-requires
-bit-of-requires c κs = search needs
+shifted-requires : tie.Need-shifted-requires
+shifted-requires c κs = search needs
 
-bit-of-requires-2 : tie.Need-bit-of-requires-2
-bit-of-requires-2 c κs = search needs
+shifted-requires-2 : tie.Need-shifted-requires-2
+shifted-requires-2 c κs = search needs
 
 arc-requires : tie.Need-arc-requires
 arc-requires c κs = search needs
 
 returns-2 : tie.Need-returns-2
-returns-2 c = λ k h. c .arc .ensures k h ∙ rw (← c .before .before .before .before .is-wide .ensures, c .before .before .before .if1 .left, c .before .before .bit-of .ensures .0, c .before .bit-of2 .ensures .0)
+returns-2 c = λ k h. c .arc .ensures k h ∙ rw (← c .before .before .before .before .is-wide .ensures, c .before .before .before .if1 .left, c .before .before .shifted .ensures, c .before .shifted2 .ensures)
 
 pub range-of-spec : {M : Type 1} → statement M
 range-of-spec =
     tie.close
-    (tie.spec is-wide-requires returns bit-of-requires bit-of-requires-2 arc-requires returns-2)
+    (tie.spec is-wide-requires returns shifted-requires shifted-requires-2 arc-requires returns-2)

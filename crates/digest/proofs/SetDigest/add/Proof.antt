@@ -1,7 +1,7 @@
 -- A turn makes one mask more, with the bit of the glyph. Assumes nothing.
 use mathlib.Core.Bool.{Bool, _||_, true}
 use mathlib.Core.Path.{_≡_, refl, sym, ap, _∙_}
-use Prim.Native.Nat.{ℕ, _-_, _≤_}
+use Prim.Native.Nat.{ℕ, _-_, _%_, _≤_}
 use native.Mathlib.Omega.{arith}
 use lib.ListN.{length, getD, length-set}
 use Rattle.bits.specs.Bits.{bit}
@@ -27,8 +27,8 @@ mul-with c = search needs
 array-read-with : tie.Need-array-read-with Inv-loop μ-loop
 array-read-with c = search needs
 
-bit-of-requires : tie.Need-bit-of-requires Inv-loop μ-loop
-bit-of-requires c κs = search needs
+shifted-requires : tie.Need-shifted-requires Inv-loop μ-loop
+shifted-requires c κs = search needs
 
 with-requires : tie.Need-with-requires Inv-loop μ-loop
 with-requires c κs = search needs
@@ -50,7 +50,7 @@ loop-again c = let l = c .before .before .before .loop in let a = c .before .bef
   omega arith,
   simp length-set (l .inv .1),
   made-more (l .masks) (added (a .g) (λ j k. bit k (getD (a .self .masks) j 0))) (l .i) (c .with .result) (omega arith) (l .inv .2)
-      (λ k h. c .with .ensures k ∙ ap (λ (b : ℕ). bit k (getD (a .self .masks) (l .i) 0) || eqb k b) (c .before .bit-of .ensures .0)),
+      (λ k h. c .with .ensures k ∙ ap (λ (b : ℕ). bit k (getD (a .self .masks) (l .i) 0) || eqb k (b % 64)) (c .before .shifted .ensures)),
 )
 
 returns : tie.Need-returns Inv-loop μ-loop
@@ -65,7 +65,7 @@ add-spec =
     loop-holds
     mul-with
     array-read-with
-    bit-of-requires
+    shifted-requires
     with-requires
     mul-masks
     array-write-masks

@@ -1,7 +1,7 @@
 -- A turn tests one mask more that has the glyph's bit. Assumes nothing.
 use mathlib.Core.Bool.{Bool, true, not, _&&_}
 use mathlib.Core.Path.{_≡_, refl, sym, ap, _∙_}
-use Prim.Native.Nat.{ℕ, _-_, _≤_}
+use Prim.Native.Nat.{ℕ, _-_, _%_, _≤_}
 use native.Mathlib.Omega.{arith}
 use lib.ListN.{getD}
 use borrow.Author.Tests.{not-true}
@@ -28,15 +28,15 @@ mul-has c = search needs
 array-read-has : tie.Need-array-read-has Inv-loop μ-loop
 array-read-has c = search needs
 
-bit-of-requires : tie.Need-bit-of-requires Inv-loop μ-loop
-bit-of-requires c κs = search needs
+shifted-requires : tie.Need-shifted-requires Inv-loop μ-loop
+shifted-requires c κs = search needs
 
 has-requires : tie.Need-has-requires Inv-loop μ-loop
 has-requires c κs = search needs
 
 returns : tie.Need-returns Inv-loop μ-loop
 returns c = let l = c .before .before .before .before .loop in let a = c .before .before .before .before .before .before .args in
-    sym (every-not (λ j. bit (place j (a .g)) (getD (a .self .masks) j 0)) 3 (l .i) (omega arith) (sym (c .before .has .ensures ∙ ap (λ (b : ℕ). bit b (getD (a .self .masks) (l .i) 0)) (c .before .before .bit-of .ensures .0)) ∙ not-true (c .before .has .result) (c .if1 .taken)))
+    sym (every-not (λ j. bit (place j (a .g)) (getD (a .self .masks) j 0)) 3 (l .i) (omega arith) (sym (c .before .has .ensures ∙ ap (λ (b : ℕ). bit (b % 64) (getD (a .self .masks) (l .i) 0)) (c .before .before .shifted .ensures)) ∙ not-true (c .before .has .result) (c .if1 .taken)))
 
 add-i : tie.Need-add-i Inv-loop μ-loop
 add-i c = search needs
@@ -46,7 +46,7 @@ loop-less c = search needs
 
 loop-again : tie.Need-loop-again Inv-loop μ-loop
 loop-again c = let l = c .before .before .before .before .loop in let a = c .before .before .before .before .before .before .args in
-    (omega arith, every-more (λ j. bit (place j (a .g)) (getD (a .self .masks) j 0)) (l .i) (c .before .has .result) (l .inv .1) (c .before .has .ensures ∙ ap (λ (b : ℕ). bit b (getD (a .self .masks) (l .i) 0)) (c .before .before .bit-of .ensures .0)) (c .if1 .left))
+    (omega arith, every-more (λ j. bit (place j (a .g)) (getD (a .self .masks) j 0)) (l .i) (c .before .has .result) (l .inv .1) (c .before .has .ensures ∙ ap (λ (b : ℕ). bit (b % 64) (getD (a .self .masks) (l .i) 0)) (c .before .before .shifted .ensures)) (c .if1 .left))
 
 returns-2 : tie.Need-returns-2 Inv-loop μ-loop
 returns-2 c = every-done _ (c .before .loop .i) 3 (omega arith) (c .before .loop .inv .1)
@@ -60,7 +60,7 @@ may-have-spec =
     loop-holds
     mul-has
     array-read-has
-    bit-of-requires
+    shifted-requires
     has-requires
     returns
     add-i

@@ -1,8 +1,8 @@
 -- The largest mask is the one with every bit. Assumes nothing.
 use native.Mathlib.Omega.{arith}
 use Rattle.bits.specs.Same.{full-bits}
-use Rattle.digest.proofs.mask.is_full.Statement.{statement}
-use Rattle.digest.proofs.mask.is_full.Tie as tie
+use Rattle.mask.proofs.is_full.Statement.{statement}
+use Rattle.mask.proofs.is_full.Tie as tie
 
 returns : tie.Need-returns
 returns c = full-bits 64 (c .args .mask) (omega arith)

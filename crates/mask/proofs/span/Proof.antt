@@ -4,8 +4,8 @@ use native.Mathlib.Omega.{arith}
 use lib.Pow.{pow-add, pow-pos}
 use Rattle.bits.specs.Laws.{shifted, span-bit, pow-le}
 use borrow.Author.Needs.{needs}
-use Rattle.digest.proofs.mask.span.Statement.{statement}
-use Rattle.digest.proofs.mask.span.Tie as tie
+use Rattle.mask.proofs.span.Statement.{statement}
+use Rattle.mask.proofs.span.Tie as tie
 
 shl-ma : tie.Need-shl-ma
 shl-ma c = search needs

@@ -1,8 +1,8 @@
 -- A bitwise AND is 0 only where no bit is common. Assumes nothing.
 use native.Mathlib.Omega.{arith}
 use Rattle.bits.specs.Same.{common-bit}
-use Rattle.digest.proofs.mask.meet.Statement.{statement}
-use Rattle.digest.proofs.mask.meet.Tie as tie
+use Rattle.mask.proofs.meet.Statement.{statement}
+use Rattle.mask.proofs.meet.Tie as tie
 
 returns : tie.Need-returns
 returns c = common-bit 64 (c .args .a) (c .args .b) (omega arith)
