@@ -1,6 +1,6 @@
 -- A row's glyphs by its words: how many there are, rows in two parts, and one glyph. What writes into rows can be added beside them.
 use mathlib.Core.Path.{_≡_, refl, sym, ap, _∙_}
-use mathlib.Core.Bool.{Bool, true, false, not, _||_, true≢false}
+use mathlib.Core.Bool.{false, not}
 use mathlib.Core.List.{List, [], _∷_, _++_}
 use mathlib.Core.Logic.{_↔_}
 use Prim.Native.Nat.{ℕ, zero, suc, _+_, _*_, _/_, _%_, _≤_, _<_}
@@ -11,7 +11,6 @@ use lib.Dec.{eqb, ltb}
 use lib.ListN.{length, getD, take, drop, length-append, length-drop, take-append-drop}
 use lib.Seq.{length-take-le, take-append-le, drop-append-le, take-at, drop-at, getD-take, getD-drop}
 use Rattle.bits.specs.Laws.{neither-left, neither-right}
-use Rattle.glyph.specs.declared.Glyph.{Glyph}
 use Rattle.glyph.specs.Glyph.{words, limit, glyphOf, glyphs, glyphsOf, Row, illShaped, blank}
 
 length-glyphs : (n : ℕ) (w : List ℕ) → length (glyphs n w) ≡ n

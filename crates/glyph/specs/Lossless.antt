@@ -1,5 +1,5 @@
 -- A glyph keeps all of its words: writing them back gives the row, so rows of the same glyphs are the same words.
-use mathlib.Core.Path.{_≡_, refl, sym, ap, _∙_}
+use mathlib.Core.Path.{_≡_, sym, ap, _∙_}
 use mathlib.Core.List.{List, [], _∷_, _++_}
 use Prim.Native.Nat.{ℕ, zero, suc, _+_, _*_, _/_, _%_, _≤_, _<_}
 use native.Mathlib.Omega.{arith}
@@ -7,7 +7,7 @@ use lib.ListN.{length, getD, take, drop, length-drop, take-append-drop}
 use lib.Seq.{drop-cons, drop-length, getD-take, getD-drop, length-take-le}
 use Rattle.glyph.specs.declared.Glyph.{Glyph}
 use Rattle.glyph.specs.Glyph.{words, glyphOf, glyphsOf, Row}
-use Rattle.glyph.specs.Laws.{glyphsOf-nil, glyphsOf-cons, length-row}
+use Rattle.glyph.specs.Laws.{glyphsOf-nil, glyphsOf-cons}
 
 -- the words of a glyph
 unfoldable pub wordsOf : Glyph → List ℕ

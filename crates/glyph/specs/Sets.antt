@@ -1,7 +1,7 @@
 -- Mark sets: words that are pairs (set, glyph) in a row (01, "A glyph in four words"; OpenType, chapter GDEF, mark glyph sets).
 use Prim.Native.Nat.{ℕ, _%_}
 use mathlib.Core.List.{List, [], _∷_}
-use mathlib.Core.Bool.{Bool, true, false, not, _&&_, _||_}
+use mathlib.Core.Bool.{Bool, false, not, _&&_, _||_}
 use lib.Dec.{eqb}
 use lib.ListN.{length}
 

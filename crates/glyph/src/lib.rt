@@ -81,16 +81,17 @@ pub fn is_odd(sets: &[u16]) -> bool
     sets.len() % 2 != 0
 }
 
-// Whether the mark sets have the pair (set, id).
+// Whether the mark sets have the pair (set, id). With no way out of the loop, the compiler tests eight pairs at once.
 pub fn in_set(sets: &[u16], set: u32, id: u32) -> bool
     ensures { λ r. ⌜ r ≡ inSet (now (sets .entry)) set id ⌝ }
 {
-    let mut i = 0;
-    while i + 1 < sets.len() {
-        if (sets[i] as u32 == set) & (sets[i + 1] as u32 == id) {
-            return true;
-        }
-        i += 2;
+    let pairs = sets.len() / 2;
+    let mut hit = false;
+    let mut k = 0;
+    while k < pairs {
+        let i = 2 * k;
+        hit = hit | ((sets[i] as u32 == set) & (sets[i + 1] as u32 == id));
+        k += 1;
     }
-    false
+    hit
 }

@@ -15,7 +15,7 @@ use Rattle.verdict.specs.declared.MaySkip.{MaySkip}
 use Rattle.verdict.specs.declared.MayMatch.{MayMatch}
 use Rattle.verdict.specs.declared.Verdict.{Verdict}
 use Rattle.verdict.specs.declared.Verdict.the-variants.{Match, NotMatch, Skip}
-use Rattle.verdict.specs.Verdict.{skipYes, ignorable, skipOf, matchOf, verdict, verdictOf, restOf, judgeAt}
+use Rattle.verdict.specs.Verdict.{skipYes, skipOf, verdict, verdictOf, restOf, judgeAt}
 use Rattle.verdict.specs.Ask.{badPlace}
 
 module _ (m : Matcher) (sign : Sign) (syllable : ℕ) (sets : List ℕ) (g : Glyph) where

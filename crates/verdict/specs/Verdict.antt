@@ -1,7 +1,7 @@
 -- Whether a glyph may be skipped, whether it may match, and the verdict on it (01, port order 3).
 use Prim.Native.Nat.{ℕ, _/_, _%_}
 use mathlib.Core.List.{List}
-use mathlib.Core.Bool.{Bool, true, false, not, cond, _&&_, _||_}
+use mathlib.Core.Bool.{Bool, not, cond, _&&_, _||_}
 use lib.Dec.{eqb}
 use lib.Bits.{bitAnd}
 use lib.ListN.{getD}
@@ -76,9 +76,12 @@ ruledOut m syllable g =
     eqb (bitAnd (g .mask) (m .mask)) 0
     || ((m .syllabic && not (eqb syllable 0)) && not (eqb syllable (g .syllable)))
 
+abbrev pub yesIf : Bool → MayMatch
+yesIf b = cond b MayMatch.Yes MayMatch.No
+
 -- Yes or No by the value (equal id, or any), or Maybe where no test is set
 abbrev pub valueBy : Test → ℕ → Glyph → MayMatch
-valueBy Equal value g = cond (eqb (g .id) value) MayMatch.Yes MayMatch.No
+valueBy Equal value g = yesIf (eqb (g .id) value)
 valueBy Any value g = MayMatch.Yes
 valueBy Nothing value g = MayMatch.Maybe
 

@@ -3,10 +3,8 @@ use glyph::Glyph;
 ghost use mathlib.Core.Path.{_≡_};
 ghost use mathlib.Core.Bool.{cond};
 ghost use Prim.Native.Nat.{_≤_};
-ghost use lib.ListN.{getD};
-ghost use Rattle.glyph.specs.Glyph.{glyphsOf, blank};
 ghost use Rattle.verdict.specs.Matcher.{isGpos, matcherOf};
-ghost use Rattle.verdict.specs.Verdict.{ignoredClass, otherMark, skipYes, ignorable, skipOf, ruledOut, valueOf, matchOf, verdict, verdictOf, restOf};
+ghost use Rattle.verdict.specs.Verdict.{ignoredClass, otherMark, skipYes, ignorable, skipOf, ruledOut, yesIf, valueOf, matchOf, verdict, verdictOf, restOf};
 ghost use Rattle.verdict.specs.Ask.{badPlace, askSkip, askMatch, askVerdict};
 ghost use Rattle.verdict.specs.Care.{careOf};
 
@@ -236,19 +234,19 @@ fn is_ruled_out(m: Matcher, syllable: u8, g: Glyph) -> bool
     (g.mask & m.mask == 0) | (m.syllabic & (syllable != 0) & (syllable != g.syllable))
 }
 
+fn yes_if(b: bool) -> MayMatch
+    ensures { λ r. ⌜ r ≡ yesIf b ⌝ }
+{
+    if b { MayMatch::Yes } else { MayMatch::No }
+}
+
 // The value alone.
 fn on_value(sign: Sign, g: Glyph) -> MayMatch
     ensures { λ r. ⌜ r ≡ valueOf sign g ⌝ }
 {
     let test = sign.test;
     match test {
-        Test::Equal => {
-            if g.id == sign.value {
-                MayMatch::Yes
-            } else {
-                MayMatch::No
-            }
-        }
+        Test::Equal => yes_if(g.id == sign.value),
         Test::Any => MayMatch::Yes,
         Test::Nothing => MayMatch::Maybe,
     }

@@ -1,5 +1,5 @@
 -- Backward: a walk gives an answer exactly when what the answer means holds. By induction on the place; at each the verdict decides.
-use Prim.Native.Nat.{ℕ, zero, suc, _+_, _-_, _≤_, _<_, max}
+use Prim.Native.Nat.{ℕ, zero, suc, _+_, _-_, _≤_}
 use mathlib.Core.Path.{_≡_, refl, sym, ap, _∙_, subst}
 use mathlib.Core.Logic.{⊎-elim, _↔_}
 use native.Mathlib.Omega.{arith}
@@ -100,3 +100,6 @@ module _ (v : ℕ → Verdict) where
 
     pub back-ran-out : (extent : ℕ) → (walkBack v place ≡ RanOut extent) ↔ RunsOutBack v place extent
     back-ran-out extent = back-means (RanOut extent)
+
+    pub back-one : (r s : Walked) → MeansBack v place r → MeansBack v place s → r ≡ s
+    back-one r s a b = sym (back-means r .1 a) ∙ back-means s .1 b

@@ -1,5 +1,5 @@
 -- Forward: a walk gives an answer exactly when what the answer means holds. By induction on the places left; at each the verdict decides.
-use Prim.Native.Nat.{ℕ, zero, suc, _+_, _-_, _≤_, _<_, max}
+use Prim.Native.Nat.{ℕ, zero, suc, _+_, _-_, _<_}
 use mathlib.Core.Path.{_≡_, refl, sym, ap, _∙_, subst}
 use mathlib.Core.Logic.{⊎-elim, _↔_}
 use native.Mathlib.Omega.{arith}
@@ -118,3 +118,7 @@ module _ (v : ℕ → Verdict) (len : ℕ) where
 
     pub walk-ran-out : (extent : ℕ) → (walkFrom v len next ≡ RanOut extent) ↔ RunsOut v len next extent
     walk-ran-out extent = walk-means (RanOut extent)
+
+    -- no second answer means what holds
+    pub walk-one : (r s : Walked) → Means v len next r → Means v len next s → r ≡ s
+    walk-one r s a b = sym (walk-means r .1 a) ∙ walk-means s .1 b

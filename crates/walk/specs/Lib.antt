@@ -6,3 +6,4 @@ pub mod Laws
 pub mod Backward
 pub mod Parts
 pub mod Accepted
+pub mod Cards

@@ -1,10 +1,9 @@
 -- A walk over a part of a row: it is the walk over the whole row, with places counted from the part's first glyph.
 use Prim.Native.Nat.{ℕ, zero, suc, _+_, _-_, _≤_, _<_}
-use mathlib.Core.Path.{_≡_, refl, sym, ap, _∙_}
+use mathlib.Core.Path.{_≡_, refl, ap, _∙_}
 use mathlib.Core.List.{List}
 use native.Mathlib.Omega.{arith}
-use native.Mathlib.Nat.{add-assoc}
-use lib.ListN.{getD, take, drop}
+use lib.ListN.{take, drop}
 use lib.Seq.{getD-drop, getD-take}
 use Rattle.glyph.specs.declared.Glyph.{Glyph}
 use Rattle.glyph.specs.Glyph.{blank}

@@ -1,76 +1,66 @@
--- Whether the pair is among all the pairs is whether it is among those from word i on: the ones before differ. Assumes nothing.
-use Prim.Native.Nat.{_+_, _-_, _≤_}
-use mathlib.Core.Path.{_≡_, sym, ap, _∙_}
-use mathlib.Core.Bool.{Bool, _||_}
+-- The sets have the pair exactly when one of the first k pairs was it, which `hit` says, or one from there on is. Assumes nothing.
+use Prim.Native.Nat.{_+_, _-_, _*_, _≤_}
+use mathlib.Core.Path.{_≡_, sym, _∙_}
+use mathlib.Core.Bool.{_||_}
 use native.Mathlib.Omega.{arith}
 use borrow.Author.Needs.{needs}
-use lib.ListN.{length, drop}
+use lib.ListN.{drop}
 use Rattle.glyph.specs.Sets.{inSet}
-use Rattle.glyph.specs.SetLaws.{set-step, set-end}
+use Rattle.glyph.specs.SetLaws.{pair-step, pair-end}
 use Rattle.glyph.proofs.in_set.Statement.{statement}
 use Rattle.glyph.proofs.in_set.Tie as tie
 
 abbrev Inv-loop : tie.InvT-loop
-Inv-loop sets set id i₀ i = (i ≤ length sets) × (inSet sets set id ≡ inSet (drop i sets) set id)
+Inv-loop sets set id pairs hit₀ k₀ hit k =
+    (k ≤ pairs) × (inSet sets set id ≡ (hit || inSet (drop (2 * k) sets) set id))
 
 abbrev μ-loop : tie.MeasureT-loop
-μ-loop sets set id i₀ i = length sets - i
+μ-loop sets set id pairs hit₀ k₀ hit k = pairs - k
 
 loop-holds : tie.Need-loop-holds Inv-loop μ-loop
 loop-holds c = search needs
 
-add-loop : tie.Need-add-loop Inv-loop μ-loop
-add-loop c = search needs
+mul-i : tie.Need-mul-i Inv-loop μ-loop
+mul-i c = search needs
 
-mul-if1 : tie.Need-mul-if1 Inv-loop μ-loop
-mul-if1 c = search needs
+mul-hit : tie.Need-mul-hit Inv-loop μ-loop
+mul-hit c = search needs
 
-shared-slice-read-if1 : tie.Need-shared-slice-read-if1 Inv-loop μ-loop
-shared-slice-read-if1 c = search needs
+shared-slice-read-hit : tie.Need-shared-slice-read-hit Inv-loop μ-loop
+shared-slice-read-hit c = search needs
 
-cast-if1 : tie.Need-cast-if1 Inv-loop μ-loop
-cast-if1 c = omega (arith, c .shared-slice-known .given (c .before .before .loop .i))
+cast-hit : tie.Need-cast-hit Inv-loop μ-loop
+cast-hit c = omega (arith, c .shared-slice-known .given (2 * c .before .before .loop .k))
 
-add-if1 : tie.Need-add-if1 Inv-loop μ-loop
-add-if1 c = search needs
+add-hit : tie.Need-add-hit Inv-loop μ-loop
+add-hit c = search needs
 
-mul-if1-2 : tie.Need-mul-if1-2 Inv-loop μ-loop
-mul-if1-2 c = search needs
+mul-hit-2 : tie.Need-mul-hit-2 Inv-loop μ-loop
+mul-hit-2 c = search needs
 
-shared-slice-read-if1-2 : tie.Need-shared-slice-read-if1-2 Inv-loop μ-loop
-shared-slice-read-if1-2 c = search needs
+shared-slice-read-hit-2 : tie.Need-shared-slice-read-hit-2 Inv-loop μ-loop
+shared-slice-read-hit-2 c = search needs
 
-cast-if1-2 : tie.Need-cast-if1-2 Inv-loop μ-loop
-cast-if1-2 c = omega (arith, c .shared-slice-known2 .given (c .before .before .before .loop .i + 1))
+cast-hit-2 : tie.Need-cast-hit-2 Inv-loop μ-loop
+cast-hit-2 c = omega (arith, c .shared-slice-known2 .given (2 * c .before .before .before .loop .k + 1))
 
-returns : tie.Need-returns Inv-loop μ-loop
-returns c =
-    let a = c .before .before .before .before .before .args in
-    let l = c .before .before .before .before .loop in
-    sym
-    (l .inv .1 ∙ set-step (a .sets .now) (l .i) (a .set) (a .id) (omega arith)
-    ∙ ap (λ (b : Bool). b || inSet (drop (l .i + 2) (a .sets .now)) (a .set) (a .id)) (c .if1 .taken))
-
-add-i : tie.Need-add-i Inv-loop μ-loop
-add-i c = search needs
+add-k : tie.Need-add-k Inv-loop μ-loop
+add-k c = search needs
 
 loop-less : tie.Need-loop-less Inv-loop μ-loop
 loop-less c = search needs
 
 loop-again : tie.Need-loop-again Inv-loop μ-loop
 loop-again c =
-    let a = c .before .before .before .before .before .args in
-    let l = c .before .before .before .before .loop in (
-      omega arith,
-      l .inv .1 ∙ set-step (a .sets .now) (l .i) (a .set) (a .id) (omega arith)
-          ∙ ap (λ (b : Bool). b || inSet (drop (l .i + 2) (a .sets .now)) (a .set) (a .id)) (c .if1 .left),
-    )
+    let a = c .before .before .before .before .args in
+    let l = c .before .before .before .loop in
+    (omega arith, l .inv .1 ∙ pair-step (a .sets .now) (l .k) (a .set) (a .id) (l .hit) (omega arith))
 
-returns-2 : tie.Need-returns-2 Inv-loop μ-loop
-returns-2 c =
+returns : tie.Need-returns Inv-loop μ-loop
+returns c =
     let a = c .before .before .args in
     let l = c .before .loop in
-    sym (l .inv .1 ∙ set-end (a .sets .now) (l .i) (a .set) (a .id) (omega arith))
+    sym (l .inv .1 ∙ pair-end (a .sets .now) (l .k) (a .set) (a .id) (l .hit) (omega arith))
 
 pub in-set-spec : {M : Type 1} → statement M
 in-set-spec =
@@ -79,16 +69,15 @@ in-set-spec =
     Inv-loop
     μ-loop
     loop-holds
-    add-loop
-    mul-if1
-    shared-slice-read-if1
-    cast-if1
-    add-if1
-    mul-if1-2
-    shared-slice-read-if1-2
-    cast-if1-2
-    returns
-    add-i
+    mul-i
+    mul-hit
+    shared-slice-read-hit
+    cast-hit
+    add-hit
+    mul-hit-2
+    shared-slice-read-hit-2
+    cast-hit-2
+    add-k
     loop-less
     loop-again
-    returns-2)
+    returns)

@@ -1,5 +1,4 @@
 -- By the cases of the test. Assumes nothing.
-use borrow.Author.Tests.{eq-eqb, ne-eqb}
 use Rattle.verdict.specs.Verdict.{valueOf}
 use borrow.Author.Needs.{needs}
 use Rattle.verdict.proofs.on_value.Statement.{statement}
@@ -7,6 +6,9 @@ use Rattle.verdict.proofs.on_value.Tie as tie
 
 enum-told : tie.Need-enum-told
 enum-told c = search needs
+
+yes-if-requires : tie.Need-yes-if-requires
+yes-if-requires c κs = search needs
 
 enum-told-2 : tie.Need-enum-told-2
 enum-told-2 c = search needs
@@ -16,20 +18,17 @@ enum-told-3 c = search needs
 
 returns : tie.Need-returns
 unfolding valueOf
-returns c = rw (c .before .before .before .enum-told .given .1, eq-eqb _ _ (c .if1 .taken))
+returns c = rw (c .before .before .before .enum-told .given .1) (c .yes-if .ensures)
 
 returns-2 : tie.Need-returns-2
 unfolding valueOf
-returns-2 c = rw (c .before .before .before .enum-told .given .1, ne-eqb _ _ (c .if1 .left))
+returns-2 c = rw (c .enum-told2 .given .1)
 
 returns-3 : tie.Need-returns-3
 unfolding valueOf
-returns-3 c = rw (c .enum-told2 .given .1)
-
-returns-4 : tie.Need-returns-4
-unfolding valueOf
-returns-4 c = rw (c .enum-told3 .given .1)
+returns-3 c = rw (c .enum-told3 .given .1)
 
 pub on-value-spec : {M : Type 1} → statement M
 on-value-spec =
-    tie.close (tie.spec enum-told enum-told-2 enum-told-3 returns returns-2 returns-3 returns-4)
+    tie.close
+    (tie.spec enum-told yes-if-requires enum-told-2 enum-told-3 returns returns-2 returns-3)
