@@ -227,9 +227,13 @@ fn number_is(words: &[u32], n: u64, k: usize) -> Replayed {
 
 fn yes_is(words: &[u32], yes: bool, k: usize) -> Replayed {
     Replayed {
-        right: (word(words, k) == 1) == yes,
+        right: word(words, k) == one_if(yes),
         next: after(k, 1),
     }
+}
+
+fn one_if(so: bool) -> u32 {
+    if so { 1 } else { 0 }
 }
 
 fn digest_is(words: &[u32], d: SetDigest, k: usize) -> Replayed {
