@@ -1,0 +1,272 @@
+// Replays a stored list of the original's answers on the question may skip, the verdict and both walks (standard input;
+// compare/README.md says how it was made) and prints how many were asked of each kind and how many came out otherwise.
+// A line's words: the operation (30 may skip, 31 verdict, 32 forward, 33 backward), GPOS, auto-ZWNJ, auto-ZWJ, syllables, mask, props,
+// context, test, value, syllable, place, len, how many words of mark sets and these, how many words of the row and these, and the answer.
+// An operation of 100 and more is the same question where ours and the original's answers differ (docs/DIFFERENCES.md), with ours.
+use stored::part;
+use stored::word;
+use verdict::Matcher;
+use verdict::MaySkip;
+use verdict::Settings;
+use verdict::Sign;
+use verdict::SkipAnswer;
+use verdict::Table;
+use verdict::Test;
+use verdict::Verdict;
+use verdict::VerdictAnswer;
+use walk::Walked;
+ghost use Rattle.io.specs.Counts.{Counts};
+
+struct Tally {
+    differences: u64,
+    skips: u64,
+    verdicts: u64,
+    forward: u64,
+    backward: u64,
+    wrong: u64,
+}
+
+// A line that was replayed: whether our answer was the stored one, and where the next line begins.
+struct Replayed {
+    right: bool,
+    next: usize,
+}
+
+// What a line asks beside its rows.
+struct Question {
+    op: u32,
+    matcher: Matcher,
+    sign: Sign,
+    syllable: u8,
+    place: usize,
+    len: usize,
+}
+
+fn main() {
+    let mut text = text_room();
+    let n = io::read_full(0, &mut text);
+    let mut words = word_room();
+    let count = stored::decode(&text[..n], &mut words);
+    report(replay(&words, count));
+}
+
+// Room for a whole list, and for its words.
+fn text_room() -> [u8; 1048576] {
+    [0; 1048576]
+}
+
+fn word_room() -> [u32; 116508] {
+    [0; 116508]
+}
+
+fn report(t: Tally) {
+    say(b"may skip ", t.skips);
+    say(b", verdicts ", t.verdicts);
+    say(b", walks forward ", t.forward);
+    say(b", backward ", t.backward);
+    say(b", differences ", t.differences);
+    say(b"; answered otherwise ", t.wrong);
+    io::write_all(1, b"\n");
+}
+
+fn say(words: &[u8], n: u64) {
+    io::write_all(1, words);
+    io::print_decimal(1, n);
+}
+
+fn replay(words: &[u32], count: usize) -> Tally {
+    let mut tally = Tally {
+        differences: 0,
+        skips: 0,
+        verdicts: 0,
+        forward: 0,
+        backward: 0,
+        wrong: 0,
+    };
+    let mut at = 0;
+    let mut left = count;
+    while 0 < left {
+        if count <= at {
+            return tally;
+        }
+        let line = one(words, at);
+        tally = counted(tally, word(words, at), line.right);
+        at = line.next;
+        left -= 1;
+    }
+    tally
+}
+
+fn counted(t: Tally, op: u32, right: bool) -> Tally {
+    Tally {
+        differences: more(t.differences, 100 <= op),
+        skips: more(t.skips, op == 30),
+        verdicts: more(t.verdicts, op == 31),
+        forward: more(t.forward, op == 32),
+        backward: more(t.backward, op == 33),
+        wrong: more(t.wrong, !right),
+    }
+}
+
+fn more(n: u64, so: bool) -> u64 {
+    if so {
+        std::num::wrapping_add_u64(n, 1)
+    } else {
+        n
+    }
+}
+
+fn after(at: usize, n: usize) -> usize {
+    std::num::wrapping_add_usize(at, n)
+}
+
+fn size(words: &[u32], k: usize) -> usize {
+    word(words, k) as usize
+}
+
+fn one(words: &[u32], at: usize) -> Replayed {
+    let q = asked(words, at);
+    let from = after(at, 14);
+    let upto = after(from, size(words, after(at, 13)));
+    let row = after(upto, 1);
+    let end = after(row, size(words, upto));
+    let mut sets = [0u16; 512];
+    let n = narrow(part(words, from, upto), &mut sets);
+    answered(q, part(words, row, end), &sets[..n], words, end)
+}
+
+fn asked(words: &[u32], at: usize) -> Question {
+    let t = test(word(words, after(at, 8)));
+    Question {
+        op: word(words, at),
+        matcher: matcher(words, at),
+        sign: Sign {
+            test: t,
+            value: word(words, after(at, 9)),
+        },
+        syllable: (word(words, after(at, 10)) % 256) as u8,
+        place: size(words, after(at, 11)),
+        len: size(words, after(at, 12)),
+    }
+}
+
+fn matcher(words: &[u32], at: usize) -> Matcher {
+    let table = table(word(words, after(at, 1)));
+    let settings = Settings {
+        table,
+        zwnj: word(words, after(at, 2)) == 1,
+        zwj: word(words, after(at, 3)) == 1,
+        syllables: word(words, after(at, 4)) == 1,
+    };
+    verdict::matcher_of(
+        settings,
+        word(words, after(at, 7)) == 1,
+        word(words, after(at, 5)),
+        word(words, after(at, 6)),
+    )
+}
+
+fn table(gpos: u32) -> Table {
+    if gpos == 1 { Table::Gpos } else { Table::Gsub }
+}
+
+fn test(n: u32) -> Test {
+    if n == 0 {
+        Test::Equal
+    } else if n == 1 {
+        Test::Any
+    } else {
+        Test::Nothing
+    }
+}
+
+// The words as 16-bit ones, as far as there is room, and how many.
+fn narrow(words: &[u32], out: &mut [u16]) -> usize
+    ensures { λ r. ⌜ Counts r (now (out .exit)) ⌝ }
+{
+    let mut k = 0;
+    while k < words.len() {
+        if out.len() <= k {
+            return k;
+        }
+        out[k] = (words[k] % 65536) as u16;
+        k += 1;
+    }
+    k
+}
+
+fn answered(q: Question, row: &[u32], sets: &[u16], words: &[u32], k: usize) -> Replayed {
+    let m = q.matcher;
+    let s = q.sign;
+    let op = q.op % 100;
+    match op {
+        30 => said_is(
+            words,
+            skip_number(verdict::ask_skip(row, q.place, m, sets)),
+            k,
+        ),
+        31 => said_is(
+            words,
+            verdict_number(verdict::ask_verdict(row, q.place, m, s, q.syllable, sets)),
+            k,
+        ),
+        32 => walk_is(
+            words,
+            walk::forward(row, q.len, q.place, m, s, q.syllable, sets),
+            k,
+        ),
+        _ => walk_is(
+            words,
+            walk::backward(row, q.place, m, s, q.syllable, sets),
+            k,
+        ),
+    }
+}
+
+fn said_is(words: &[u32], said: u32, k: usize) -> Replayed {
+    Replayed {
+        right: word(words, k) == said,
+        next: after(k, 1),
+    }
+}
+
+// A refusal is no answer of the original's.
+fn skip_number(a: SkipAnswer) -> u32 {
+    match a {
+        SkipAnswer::Refused => 9,
+        SkipAnswer::Said(s) => match s {
+            MaySkip::No => 0,
+            MaySkip::Yes => 1,
+            MaySkip::Maybe => 2,
+        },
+    }
+}
+
+fn verdict_number(a: VerdictAnswer) -> u32 {
+    match a {
+        VerdictAnswer::Refused => 9,
+        VerdictAnswer::Said(s) => match s {
+            Verdict::Match => 0,
+            Verdict::NotMatch => 1,
+            Verdict::Skip => 2,
+        },
+    }
+}
+
+fn walk_is(words: &[u32], w: Walked, k: usize) -> Replayed {
+    match w {
+        Walked::Found(p) => three_are(words, 0, 0, p, k),
+        Walked::Stopped(e) => three_are(words, 4, 0, e, k),
+        Walked::RanOut(e) => three_are(words, 4, 1, e, k),
+        Walked::Refused => three_are(words, 1, 0, 0, k),
+    }
+}
+
+fn three_are(words: &[u32], number: u32, ran_out: u32, place: usize, k: usize) -> Replayed {
+    Replayed {
+        right: (word(words, k) == number)
+            & (word(words, after(k, 1)) == ran_out)
+            & (size(words, after(k, 2)) == place),
+        next: after(k, 3),
+    }
+}
