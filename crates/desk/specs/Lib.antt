@@ -1,3 +1,4 @@
 pub mod Digests
 pub mod Allowances
 pub mod Walks
+pub mod Matches

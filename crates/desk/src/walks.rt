@@ -14,7 +14,7 @@ use walk::Walked;
 ghost use mathlib.Core.Path.{_≡_};
 ghost use Rattle.verdict.specs.Ask.{askSkip, askMatch, askVerdict, skipReply, matchReply, verdictReply};
 ghost use Rattle.walk.specs.Calls.{forwardOf, backwardOf};
-ghost use Rattle.desk.specs.Walks.{tableOf, testOf, matcherFor, signOf, saidOf, stepOf};
+ghost use Rattle.desk.specs.Walks.{tableOf, testOf, settingsOf, matcherFor, signOf, saidOf, stepOf};
 
 // A lookup's table and settings, its mask and its props.
 #[repr(C)]
@@ -153,7 +153,7 @@ fn table(gpos: bool) -> Table
     if gpos { Table::Gpos } else { Table::Gsub }
 }
 
-fn test(n: u8) -> Test
+pub fn test(n: u8) -> Test
     ensures { λ r. ⌜ r ≡ testOf n ⌝ }
 {
     if n == 0 {
@@ -168,18 +168,19 @@ fn test(n: u8) -> Test
 fn matcher(l: Lookup, context: bool) -> Matcher
     ensures { λ r. ⌜ r ≡ matcherFor l context ⌝ }
 {
+    verdict::matcher_of(settings(l), context, l.mask, l.props)
+}
+
+pub fn settings(l: Lookup) -> Settings
+    ensures { λ r. ⌜ r ≡ settingsOf l ⌝ }
+{
     let t = table(l.gpos);
-    verdict::matcher_of(
-        Settings {
-            table: t,
-            zwnj: l.zwnj,
-            zwj: l.zwj,
-            syllables: l.syllables,
-        },
-        context,
-        l.mask,
-        l.props,
-    )
+    Settings {
+        table: t,
+        zwnj: l.zwnj,
+        zwj: l.zwj,
+        syllables: l.syllables,
+    }
 }
 
 fn sign(s: Sought) -> Sign

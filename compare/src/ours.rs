@@ -1,0 +1,330 @@
+//! The proved library's calls, as C sees them, and safe covers for them.
+use original::terms::{May, Role, Setup, Test, Verdict, Walked};
+
+#[repr(C)]
+struct CLookup {
+    gpos: bool,
+    zwnj: bool,
+    zwj: bool,
+    syllables: bool,
+    mask: u32,
+    props: u32,
+}
+
+#[repr(C)]
+#[derive(Clone, Copy)]
+struct CSign {
+    test: u8,
+    syllable: u8,
+    value: u32,
+}
+
+/// How a call takes a sign. On x86-64, for which the library is made, there is
+/// no register left for it, and it goes by value to the stack. A module that
+/// was compiled for another processor reads it where the caller keeps it.
+#[cfg(target_arch = "x86_64")]
+type HandedSign<'a> = CSign;
+#[cfg(not(target_arch = "x86_64"))]
+type HandedSign<'a> = &'a CSign;
+
+#[cfg(target_arch = "x86_64")]
+fn hand(sign: &CSign) -> HandedSign<'_> {
+    *sign
+}
+#[cfg(not(target_arch = "x86_64"))]
+fn hand(sign: &CSign) -> HandedSign<'_> {
+    sign
+}
+
+/// A walk's answer as it is handed over: 0 found, 4 stopped or ran out, 1
+/// refused. Every field is compared.
+#[repr(C)]
+#[derive(Clone, Copy, Debug, PartialEq, Eq)]
+pub struct CWalked {
+    number: u8,
+    /// 0 or 1, but read as a number: what is handed over isn't trusted.
+    ran_out: u8,
+    place: usize,
+}
+
+/// A question's answer as it is handed over: 0 said, 1 refused.
+#[repr(C)]
+#[derive(Clone, Copy, Debug, PartialEq, Eq)]
+pub struct CSaid {
+    number: u8,
+    said: u8,
+}
+
+extern "C" {
+    fn cb_digest_new(masks: *mut [u64; 3]);
+    fn cb_digest_full(masks: *mut [u64; 3]);
+    fn cb_digest_clear(masks: *mut [u64; 3]);
+    fn cb_digest_union(masks: *mut [u64; 3], other: *const [u64; 3]);
+    fn cb_digest_add(masks: *mut [u64; 3], g: u32);
+    fn cb_digest_add_array(masks: *mut [u64; 3], glyphs: *const u32, n: usize);
+    fn cb_digest_add_range(masks: *mut [u64; 3], a: u32, b: u32) -> bool;
+    fn cb_digest_may_have(masks: *const [u64; 3], g: u32) -> bool;
+    fn cb_digest_may_intersect(masks: *const [u64; 3], other: *const [u64; 3]) -> bool;
+
+    fn cb_rule_set_digest_new() -> u64;
+    fn cb_rule_set_digest_full() -> u64;
+    fn cb_rule_set_digest_add(mask: u64, value: u32) -> u64;
+    fn cb_rule_set_digest_is_full(mask: u64) -> bool;
+    fn cb_rule_set_digest_may_have(mask: u64, value: u32) -> bool;
+
+    fn cb_budget_for_table_bytes(left: *mut [u64; 2], bytes: u64);
+    fn cb_budget_new(left: *mut [u64; 2], work: u64, bytes: u64);
+    fn cb_budget_work(left: *mut [u64; 2], visits: u64) -> bool;
+    fn cb_budget_alloc(left: *mut [u64; 2], count: u64, size: u64) -> bool;
+
+    fn cb_may_skip(
+        row: *const u32,
+        words: usize,
+        place: usize,
+        lookup: CLookup,
+        context: bool,
+        sets: *const u16,
+        n: usize,
+    ) -> CSaid;
+    fn cb_may_match(
+        row: *const u32,
+        words: usize,
+        place: usize,
+        lookup: CLookup,
+        context: bool,
+        sign: HandedSign,
+    ) -> CSaid;
+    fn cb_verdict(
+        row: *const u32,
+        words: usize,
+        place: usize,
+        lookup: CLookup,
+        context: bool,
+        sign: HandedSign,
+        sets: *const u16,
+        n: usize,
+    ) -> CSaid;
+    fn cb_forward(
+        row: *const u32,
+        words: usize,
+        len: usize,
+        place: usize,
+        lookup: CLookup,
+        context: bool,
+        sign: HandedSign,
+        sets: *const u16,
+        n: usize,
+    ) -> CWalked;
+    fn cb_backward(
+        row: *const u32,
+        words: usize,
+        place: usize,
+        lookup: CLookup,
+        context: bool,
+        sign: HandedSign,
+        sets: *const u16,
+        n: usize,
+    ) -> CWalked;
+}
+
+// Every call below is sound: the library reads and writes only what the
+// pointers' types name, and a slice's pointer goes with its length.
+
+/// The three masks, of shifts 4, 0, 6.
+#[derive(Clone, Copy, Debug, PartialEq, Eq)]
+pub struct Digest(pub [u64; 3]);
+
+impl Digest {
+    /// What was there before must not matter.
+    pub fn new(mut before: [u64; 3]) -> Self {
+        unsafe { cb_digest_new(&mut before) };
+        Self(before)
+    }
+    pub fn full(mut before: [u64; 3]) -> Self {
+        unsafe { cb_digest_full(&mut before) };
+        Self(before)
+    }
+    pub fn clear(&mut self) {
+        unsafe { cb_digest_clear(&mut self.0) }
+    }
+    pub fn union(&mut self, other: [u64; 3]) {
+        unsafe { cb_digest_union(&mut self.0, &other) }
+    }
+    pub fn add(&mut self, g: u32) {
+        unsafe { cb_digest_add(&mut self.0, g) }
+    }
+    pub fn add_array(&mut self, glyphs: &[u32]) {
+        unsafe { cb_digest_add_array(&mut self.0, glyphs.as_ptr(), glyphs.len()) }
+    }
+    pub fn add_range(&mut self, a: u32, b: u32) -> bool {
+        unsafe { cb_digest_add_range(&mut self.0, a, b) }
+    }
+    pub fn may_have(&self, g: u32) -> bool {
+        unsafe { cb_digest_may_have(&self.0, g) }
+    }
+    pub fn may_intersect(&self, other: [u64; 3]) -> bool {
+        unsafe { cb_digest_may_intersect(&self.0, &other) }
+    }
+}
+
+pub struct RuleDigest(pub u64);
+
+impl RuleDigest {
+    pub fn new() -> Self {
+        Self(unsafe { cb_rule_set_digest_new() })
+    }
+    pub fn full() -> Self {
+        Self(unsafe { cb_rule_set_digest_full() })
+    }
+    pub fn add(&mut self, value: u32) {
+        self.0 = unsafe { cb_rule_set_digest_add(self.0, value) };
+    }
+    pub fn is_full(&self) -> bool {
+        unsafe { cb_rule_set_digest_is_full(self.0) }
+    }
+    pub fn may_have(&self, value: u32) -> bool {
+        unsafe { cb_rule_set_digest_may_have(self.0, value) }
+    }
+}
+
+/// What is left of work and of bytes.
+#[derive(Clone, Copy, Debug, PartialEq, Eq)]
+pub struct Allowance(pub [u64; 2]);
+
+impl Allowance {
+    pub fn for_table_bytes(bytes: u64) -> Self {
+        let mut left = [u64::MAX; 2];
+        unsafe { cb_budget_for_table_bytes(&mut left, bytes) };
+        Self(left)
+    }
+    pub fn new(work: u64, bytes: u64) -> Self {
+        let mut left = [u64::MAX; 2];
+        unsafe { cb_budget_new(&mut left, work, bytes) };
+        Self(left)
+    }
+    /// Taken (true) or Exhausted.
+    pub fn work(&mut self, visits: u64) -> bool {
+        unsafe { cb_budget_work(&mut self.0, visits) }
+    }
+    /// Taken (true) or Exhausted.
+    pub fn alloc(&mut self, count: u64, size: u64) -> bool {
+        unsafe { cb_budget_alloc(&mut self.0, count, size) }
+    }
+}
+
+impl CLookup {
+    fn of(setup: &Setup) -> Self {
+        Self {
+            gpos: setup.gpos,
+            zwnj: setup.auto_zwnj,
+            zwj: setup.auto_zwj,
+            syllables: setup.per_syllable,
+            mask: setup.mask,
+            props: setup.props,
+        }
+    }
+}
+
+/// A test with what stands for it in a call: which of the many numbers that
+/// mean no test, and the value where none is looked at. Neither may matter.
+#[derive(Clone, Copy, Debug)]
+pub struct Sign {
+    pub test: Test,
+    pub syllable: u8,
+    pub spare: u32,
+}
+
+impl Sign {
+    pub fn number(self) -> u8 {
+        match self.test {
+            Test::Equal(_) => 0,
+            Test::Any => 1,
+            Test::None => (self.spare as u8).max(2),
+        }
+    }
+    pub fn value(self) -> u32 {
+        match self.test {
+            Test::Equal(value) => value,
+            Test::Any | Test::None => self.spare,
+        }
+    }
+    fn in_c(self) -> CSign {
+        CSign { test: self.number(), syllable: self.syllable, value: self.value() }
+    }
+}
+
+impl CWalked {
+    /// What must be handed over; nothing is for refusal 1.
+    pub fn of(walked: Option<Walked>) -> Self {
+        let (number, ran_out, place) = match walked {
+            Some(Walked::Found(place)) => (0, 0, place),
+            Some(Walked::Stopped(extent)) => (4, 0, extent),
+            Some(Walked::RanOut(extent)) => (4, 1, extent),
+            None => (1, 0, 0),
+        };
+        Self { number, ran_out, place }
+    }
+}
+
+impl CSaid {
+    const REFUSED: Self = Self { number: 1, said: 0 };
+
+    pub fn of_may(may: Option<May>) -> Self {
+        may.map_or(Self::REFUSED, |may| Self { number: 0, said: may as u8 })
+    }
+    pub fn of_verdict(verdict: Option<Verdict>) -> Self {
+        verdict.map_or(Self::REFUSED, |verdict| Self { number: 0, said: verdict as u8 })
+    }
+}
+
+fn is_context(role: Role) -> bool {
+    role == Role::Context
+}
+
+/// A row lent to the library.
+pub struct Row<'a> {
+    pub setup: &'a Setup,
+    pub words: &'a [u32],
+}
+
+impl Row<'_> {
+    pub fn may_skip(&self, role: Role, place: usize) -> CSaid {
+        let (row, sets) = (self.words, &self.setup.sets);
+        let lookup = CLookup::of(self.setup);
+        let context = is_context(role);
+        unsafe {
+            cb_may_skip(row.as_ptr(), row.len(), place, lookup, context, sets.as_ptr(), sets.len())
+        }
+    }
+
+    pub fn may_match(&self, role: Role, place: usize, sign: Sign) -> CSaid {
+        let row = self.words;
+        let lookup = CLookup::of(self.setup);
+        let context = is_context(role);
+        unsafe { cb_may_match(row.as_ptr(), row.len(), place, lookup, context, hand(&sign.in_c())) }
+    }
+
+    pub fn verdict(&self, role: Role, place: usize, sign: Sign) -> CSaid {
+        let (row, sets) = (self.words, &self.setup.sets);
+        let (p, words, q, n) = (row.as_ptr(), row.len(), sets.as_ptr(), sets.len());
+        let lookup = CLookup::of(self.setup);
+        let context = is_context(role);
+        unsafe { cb_verdict(p, words, place, lookup, context, hand(&sign.in_c()), q, n) }
+    }
+
+    pub fn forward(&self, role: Role, len: usize, place: usize, sign: Sign) -> CWalked {
+        let (row, sets) = (self.words, &self.setup.sets);
+        let (p, words, q, n) = (row.as_ptr(), row.len(), sets.as_ptr(), sets.len());
+        let lookup = CLookup::of(self.setup);
+        let context = is_context(role);
+        unsafe { cb_forward(p, words, len, place, lookup, context, hand(&sign.in_c()), q, n) }
+    }
+
+    pub fn backward(&self, role: Role, place: usize, sign: Sign) -> CWalked {
+        let (row, sets) = (self.words, &self.setup.sets);
+        let (p, words, q, n) = (row.as_ptr(), row.len(), sets.as_ptr(), sets.len());
+        let lookup = CLookup::of(self.setup);
+        let context = is_context(role);
+        unsafe { cb_backward(p, words, place, lookup, context, hand(&sign.in_c()), q, n) }
+    }
+}

@@ -1,0 +1,80 @@
+//! Writes the stored lists that proved programs replay. Only the original is
+//! asked, and the same call writes the same file on every machine.
+//!
+//! A list is lines of words of 32 bits, and nothing else: each word is eight
+//! capital hexadecimal digits and one byte more, a blank between the words of
+//! a line and 0A at its end. A number of 64 bits is two words, the high one
+//! first. A line is the operation's code, the arguments, and the original's
+//! answer; each kind's file opens with what its lines hold.
+mod small;
+mod walks;
+
+use std::collections::BTreeMap;
+use std::fmt::Write;
+
+const MOST_BYTES: usize = 1_000_000;
+
+/// The stored kinds, and what writes each.
+const KINDS: &[(&str, fn(&mut List))] = &[("small", small::write), ("walks", walks::write)];
+
+/// The words of a line.
+#[derive(Default)]
+pub struct Line(Vec<u32>);
+
+impl Line {
+    pub fn of(operation: u32) -> Self {
+        Self(vec![operation])
+    }
+    pub fn word(mut self, word: impl Into<u32>) -> Self {
+        self.0.push(word.into());
+        self
+    }
+    pub fn words(mut self, words: &[u32]) -> Self {
+        self.0.extend(words);
+        self
+    }
+    /// A list's length and its words.
+    pub fn list(self, words: &[u32]) -> Self {
+        self.word(words.len() as u32).words(words)
+    }
+    /// Numbers of 64 bits.
+    pub fn wide(mut self, numbers: &[u64]) -> Self {
+        self.0.extend(numbers.iter().flat_map(|&n| [(n >> 32) as u32, n as u32]));
+        self
+    }
+}
+
+#[derive(Default)]
+pub struct List {
+    text: String,
+    lines: BTreeMap<u32, usize>,
+}
+
+impl List {
+    pub fn push(&mut self, line: Line) {
+        for (i, word) in line.0.iter().enumerate() {
+            let blank = if i == 0 { "" } else { " " };
+            write!(self.text, "{blank}{word:08X}").expect("a string grows");
+        }
+        self.text.push('\n');
+        *self.lines.entry(line.0[0]).or_default() += 1;
+    }
+}
+
+/// Answers the status to exit with, or nothing if no such kind is stored.
+pub fn write(kind: &str, path: &str) -> Option<i32> {
+    let (_, fill) = KINDS.iter().find(|entry| entry.0 == kind)?;
+    let mut list = List::default();
+    fill(&mut list);
+    let bytes = list.text.len();
+    assert!(bytes <= MOST_BYTES, "{bytes} bytes are more than a list may have");
+    if let Err(error) = std::fs::write(path, &list.text) {
+        eprintln!("{path}: {error}");
+        return Some(1);
+    }
+    println!("{path}: {} lines, {bytes} bytes", list.lines.values().sum::<usize>());
+    for (operation, lines) in list.lines {
+        println!("  {lines:>9}  of operation {operation}");
+    }
+    Some(0)
+}

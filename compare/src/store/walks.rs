@@ -1,0 +1,160 @@
+//! May skip, the verdict and both walks. All numbers are one word.
+//!
+//!     30  may skip   30 lookup context test value syllable place len sets row  said
+//!     31  verdict    31 lookup context test value syllable place len sets row  said
+//!     32  forward    32 lookup context test value syllable place len sets row  number ran_out place
+//!     33  backward   33 lookup context test value syllable place len sets row  number ran_out place
+//!
+//! A lookup is gpos zwnj zwj syllables mask props; a test is 0 equal, 1 any or
+//! another number; len is 0 but in 32; sets and row are each a number of words
+//! and those words. Said is 0 No, 1 Yes, 2 Maybe in 30, and 0 Match, 1
+//! NotMatch, 2 Skip in 31. The number is 0, found at the place, or 4, with the
+//! extent as place, and ran_out is 1 where no glyph was left.
+//!
+//! Nothing is refused here, and no ignorable glyph has the props bit 0x10, on
+//! which the original answers otherwise (docs/DIFFERENCES.md). May match has
+//! no call of its own in the original.
+use super::{Line, List};
+use crate::draw;
+use crate::ours::Sign;
+use crate::random::Random;
+use crate::walks::{self, Case, Way};
+use original::glyphs::{Glyph, SUBSTITUTED};
+use original::terms::{Role, Setup, Test, Walked, ROLES};
+use original::walks::{with_row, Row};
+
+const SEED: u64 = 3;
+const QUESTIONS: usize = 400;
+const WALKS: usize = 520;
+/// A walk over each of these, in each direction.
+const LONG: [usize; 4] = [40, 64, 150, 1024];
+
+pub fn write(list: &mut List) {
+    let random = &mut Random::new(SEED);
+    every_glyph(list, random);
+    for _ in 0..QUESTIONS {
+        let count = 1 + random.below(3) as usize;
+        let case = case(random, count);
+        let place = random.below(count as u64) as usize;
+        let asked = Asked::new(&case, random.pick(&ROLES), place, sign(random, &case));
+        list.push(asked.may_skip());
+        list.push(asked.verdict());
+    }
+    for i in 0..WALKS {
+        let count = LONG.get(i).copied().unwrap_or_else(|| random.below(13) as usize);
+        let case = case(random, count);
+        for way in [Way::Forward, Way::Backward] {
+            let place = place(random, way, &case);
+            let asked = Asked::new(&case, random.pick(&ROLES), place, sign(random, &case));
+            list.push(asked.walk(way));
+        }
+    }
+}
+
+/// Mostly one from which something is tested.
+fn place(random: &mut Random, way: Way, case: &Case) -> usize {
+    let most = if way == Way::Forward { case.len } else { case.glyphs.len() };
+    let tests = |&place: &usize| if way == Way::Forward { place + 1 < most } else { place > 0 };
+    let mut drawn = [(); 4].map(|()| walks::place(random, way, most)).into_iter();
+    let last = drawn.next_back().expect("four places");
+    drawn.find(tests).unwrap_or(last)
+}
+
+/// Each glyph of the alphabet by itself under each of the lookups, the
+/// settings taken in turn.
+fn every_glyph(list: &mut List, random: &mut Random) {
+    let settings: Vec<Setup> = walks::all_settings().collect();
+    let mut turn = 0;
+    for glyph in walks::ALPHABET {
+        for props in walks::PROPS {
+            for role in ROLES {
+                // 7 shares no divisor with 16, so that every setting is met
+                turn += 7;
+                let setup = Setup { props, ..settings[turn % settings.len()].clone() };
+                let case = Case::new(setup, vec![glyph], 1, draw::syllable(random));
+                let asked = Asked::new(&case, role, 0, sign(random, &case));
+                list.push(asked.may_skip());
+                list.push(asked.verdict());
+            }
+        }
+    }
+}
+
+fn case(random: &mut Random, count: usize) -> Case {
+    let case = walks::case(random, count);
+    let clear = |g: &Glyph| match g[2] >> 24 & 1 {
+        0 => *g,
+        _ => [g[0], g[1], g[2] & !SUBSTITUTED, g[3]],
+    };
+    Case::new(case.setup, case.glyphs.iter().map(clear).collect(), case.len, case.syllable)
+}
+
+fn sign(random: &mut Random, case: &Case) -> Sign {
+    let test = draw::test(random);
+    // What is looked for is often there.
+    let test = match (test, random.one_in(2)) {
+        (Test::Equal(_), true) if !case.glyphs.is_empty() => Test::Equal(random.pick(&case.glyphs)[0]),
+        _ => test,
+    };
+    Sign { test, syllable: case.syllable, spare: random.below(256) as u32 }
+}
+
+struct Asked<'a> {
+    case: &'a Case,
+    role: Role,
+    place: usize,
+    sign: Sign,
+}
+
+impl<'a> Asked<'a> {
+    fn new(case: &'a Case, role: Role, place: usize, sign: Sign) -> Self {
+        Self { case, role, place, sign }
+    }
+
+    fn original<R>(&self, ask: impl FnOnce(&mut Row) -> R) -> R {
+        let case = self.case;
+        with_row(&case.setup, &case.glyphs, case.len, case.syllable, ask)
+    }
+
+    fn question(&self, operation: u32, len: usize) -> Line {
+        let setup = &self.case.setup;
+        let sets: Vec<u32> = setup.sets.iter().map(|&word| word.into()).collect();
+        Line::of(operation)
+            .word(setup.gpos)
+            .word(setup.auto_zwnj)
+            .word(setup.auto_zwj)
+            .word(setup.per_syllable)
+            .words(&[setup.mask, setup.props])
+            .word(self.role == Role::Context)
+            .word(self.sign.number())
+            .word(self.sign.value())
+            .word(self.case.syllable)
+            .words(&[self.place as u32, len as u32])
+            .list(&sets)
+            .list(&self.case.words)
+    }
+
+    fn may_skip(&self) -> Line {
+        let said = self.original(|row| row.may_skip(self.role, self.place));
+        self.question(30, 0).word(said as u8)
+    }
+
+    fn verdict(&self) -> Line {
+        let said = self.original(|row| row.verdict(self.role, self.place, self.sign.test));
+        self.question(31, 0).word(said as u8)
+    }
+
+    fn walk(&self, way: Way) -> Line {
+        let at = (way, self.role);
+        let walked = self.original(|row| walks::walked(row, at, self.place, self.sign.test));
+        let line = match way {
+            Way::Forward => self.question(32, self.case.len),
+            Way::Backward => self.question(33, 0),
+        };
+        match walked {
+            Walked::Found(place) => line.words(&[0, 0, place as u32]),
+            Walked::Stopped(extent) => line.words(&[4, 0, extent as u32]),
+            Walked::RanOut(extent) => line.words(&[4, 1, extent as u32]),
+        }
+    }
+}

@@ -1,0 +1,182 @@
+//! How long both walks take a glyph, the original's and ours, in one program.
+//!
+//! A walk goes over 1,024 glyphs, one of which it starts from. A round lets one
+//! side walk some times and then the other, and the rounds change which is
+//! first; the best and the median of the rounds are printed. The same rows are
+//! walked over and over, so they are warm: in a cache, every branch seen before.
+use crate::draw;
+use crate::ours::{self, Sign};
+use crate::random::Random;
+use original::glyphs::Glyph;
+use original::terms::{Role, Setup, Test};
+use original::walks::{with_row, Row};
+use std::hint::black_box;
+use std::time::{Duration, Instant};
+
+const GLYPHS: usize = 1024;
+/// How long one side walks in a round.
+const ROUND: Duration = Duration::from_micros(200);
+const SOUGHT: u32 = 7;
+
+/// All glyphs are passed over, but for the last that a walk meets in the
+/// mixture, which stops it.
+struct Text {
+    name: &'static str,
+    props: u32,
+    sets: Vec<u16>,
+    glyph: fn(&mut Random, usize) -> Glyph,
+}
+
+const MARK: Glyph = [9, 1, 0x0000_0108, 0x0101];
+const IGNORABLE: Glyph = [9, 1, 0x0100_0000, 0x0101];
+const IGNORABLE_MARK: Glyph = [9, 1, 0x0100_0108, 0x0101];
+const BASE: Glyph = [9, 1, 0x0000_0002, 0x0101];
+const PLAIN: Glyph = [9, 1, 0, 0x0101];
+
+fn texts() -> [Text; 6] {
+    let others = |n: u16| (0..n).flat_map(|i| [3, 1000 + i]);
+    let all_others: Vec<u16> = others(200).collect();
+    let among_others: Vec<u16> = others(99).chain([3, 9]).chain(others(100)).collect();
+    let in_set_3 = 3 << 16 | 0x10;
+    [
+        Text {
+            name: "marks under flag 8",
+            props: 8,
+            sets: vec![],
+            glyph: |_, _| MARK,
+        },
+        Text {
+            name: "marks of another attachment class",
+            props: 0x200,
+            sets: vec![],
+            glyph: |_, _| MARK,
+        },
+        Text {
+            name: "marks outside a set of 200 pairs",
+            props: in_set_3,
+            sets: all_others,
+            glyph: |_, _| MARK,
+        },
+        Text {
+            name: "ignorable marks, 100th of 200 pairs",
+            props: in_set_3,
+            sets: among_others,
+            glyph: |_, _| IGNORABLE_MARK,
+        },
+        Text {
+            name: "default ignorables",
+            props: 0,
+            sets: vec![],
+            glyph: |_, _| IGNORABLE,
+        },
+        Text {
+            name: "a mixture that stops at its last",
+            props: 0x202,
+            sets: vec![],
+            glyph: |random, place| match place {
+                0 | 1023 => PLAIN,
+                _ => random.pick(&[MARK, MARK, MARK, IGNORABLE, IGNORABLE, BASE, BASE]),
+            },
+        },
+    ]
+}
+
+/// Nanoseconds a glyph, of each round.
+struct Times(Vec<f64>);
+
+impl Times {
+    fn take(&mut self, walks: u32, glyphs: usize, walk: &mut impl FnMut()) {
+        let took = time(walks, walk).as_nanos() as f64;
+        self.0.push(took / (f64::from(walks) * glyphs as f64));
+    }
+    fn best_and_median(mut self) -> [f64; 2] {
+        self.0.sort_by(f64::total_cmp);
+        [self.0[0], self.0[self.0.len() / 2]]
+    }
+}
+
+fn time(walks: u32, walk: &mut impl FnMut()) -> Duration {
+    let began = Instant::now();
+    (0..walks).for_each(|_| walk());
+    began.elapsed()
+}
+
+/// Times two ways of doing the same, and prints a line.
+fn line(
+    name: &str,
+    rounds: u32,
+    glyphs: usize,
+    mut original: impl FnMut(),
+    mut ours: impl FnMut(),
+) {
+    let slower = time(10, &mut original).max(time(10, &mut ours)) / 10;
+    let walks = (ROUND.as_nanos() / slower.as_nanos().max(1)).max(1) as u32;
+    let (mut theirs, mut our) = (Times(vec![]), Times(vec![]));
+    for round in 0..rounds {
+        if round % 2 == 0 {
+            theirs.take(walks, glyphs, &mut original);
+            our.take(walks, glyphs, &mut ours);
+        } else {
+            our.take(walks, glyphs, &mut ours);
+            theirs.take(walks, glyphs, &mut original);
+        }
+    }
+    let [best, median] = theirs.best_and_median();
+    let [our_best, our_median] = our.best_and_median();
+    let ratios = [our_best / best, our_median / median];
+    print!("  {name:<46} {best:>7.2} {median:>7.2}  {our_best:>7.2} {our_median:>7.2}");
+    println!("  {:>6.2} {:>6.2}", ratios[0], ratios[1]);
+}
+
+/// `place` says what the program runs on.
+pub fn run(rounds: u32, place: &str) -> i32 {
+    println!("timing: {place}");
+    println!("nanoseconds a glyph over {GLYPHS} glyphs, rows warm; best and median of {rounds} rounds,");
+    println!("the two sides by turns; the ratio is ours to the original's, below 1 where ours is faster");
+    println!("  {:46} {:^15}  {:^15}  {:^13}", "", "original", "ours", "ratio");
+    let two = |width: usize| format!("{:>width$} {:>width$}", "best", "median");
+    println!("  {:46} {}  {}  {}", "", two(7), two(7), two(6));
+    for text in texts() {
+        let random = &mut Random::new(1);
+        let glyphs: Vec<Glyph> = (0..GLYPHS).map(|place| (text.glyph)(random, place)).collect();
+        let words = draw::words(&glyphs);
+        let setup = Setup { mask: 1, props: text.props, sets: text.sets, ..Setup::default() };
+        with_row(&setup, &glyphs, GLYPHS, 0, |row| {
+            walks(text.name, rounds, row, &ours::Row { setup: &setup, words: &words });
+        });
+    }
+    0
+}
+
+/// Forward with the input matcher from the first glyph, backward with the
+/// context matcher from the last; the one they start from isn't tested.
+fn walks(name: &str, rounds: u32, row: &mut Row, lent: &ours::Row) {
+    let value = || black_box(SOUGHT);
+    let sign = || Sign { test: Test::Equal(value()), syllable: 0, spare: 0 };
+    let last = GLYPHS - 1;
+    let ahead = row.bare_forward(Role::Input, 0, SOUGHT);
+    let back = row.bare_backward(Role::Context, last, SOUGHT);
+    assert_eq!((ahead, back), ((false, GLYPHS), (false, 0)), "both walks go over all of {name}");
+    line(
+        &format!("forward, {name}"),
+        rounds,
+        last,
+        || {
+            black_box(row.bare_forward(Role::Input, 0, value()));
+        },
+        || {
+            black_box(lent.forward(Role::Input, GLYPHS, 0, sign()));
+        },
+    );
+    line(
+        &format!("backward, {name}"),
+        rounds,
+        last,
+        || {
+            black_box(row.bare_backward(Role::Context, last, value()));
+        },
+        || {
+            black_box(lent.backward(Role::Context, last, sign()));
+        },
+    );
+}

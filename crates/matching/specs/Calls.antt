@@ -1,0 +1,76 @@
+-- The three calls on rows of words: refused by 1, 2, 3 or 6 in this order, else what the matcher says of the glyphs (01, "When the desk says no").
+use Prim.Native.Nat.{ℕ}
+use mathlib.Core.List.{List}
+use mathlib.Core.Bool.{Bool, cond, _||_}
+use lib.Dec.{eqb, ltb, leb}
+use lib.ListN.{length, getD, take}
+use Rattle.glyph.specs.declared.Glyph.{Glyph}
+use Rattle.glyph.specs.Glyph.{glyphsOf, illShaped, blank}
+use Rattle.glyph.specs.Sets.{oddSets}
+use Rattle.verdict.specs.declared.Test.{Test}
+use Rattle.matching.specs.declared.Lookup.{Lookup}
+use Rattle.matching.specs.declared.Refusal.{Refusal}
+use Rattle.matching.specs.declared.Refusal.the-variants.{Shape, Cursor, Values, Start}
+use Rattle.matching.specs.declared.Fit.{Fit}
+use Rattle.matching.specs.declared.InputAnswer.{InputAnswer}
+use Rattle.matching.specs.declared.InputMatch.{InputMatch}
+use Rattle.matching.specs.declared.ContextMatch.{ContextMatch}
+use Rattle.matching.specs.Take.{ahead, behind}
+use Rattle.matching.specs.Matchers.{inputOn, aheadOn, backOn, backwardGlyphs}
+use Rattle.matching.specs.Answers.{slots, without, inputTold, contextTold}
+
+-- 1: a row not whole glyphs or over the limit, d or len past its row, odd mark sets
+unfoldable pub badText : List ℕ → ℕ → List ℕ → ℕ → List ℕ → Bool
+badText done d coming len sets =
+    (((illShaped done || ltb (length (glyphsOf done)) d) || illShaped coming) || ltb (length (glyphsOf coming)) len) || oddSets sets
+
+-- input: up to 63 values
+unfoldable pub inputFit : List ℕ → ℕ → List ℕ → ℕ → ℕ → List ℕ → ℕ → Fit
+inputFit done d coming len idx sets values =
+    cond (badText done d coming len sets) (Fit.Refused Shape)
+    (cond (leb len idx) (Fit.Refused Cursor)
+    (cond (leb slots values) (Fit.Refused Values) Fit.Fits))
+
+-- lookahead: a start past len is 1 too, up to 64 values, a start 0 is 6
+unfoldable pub aheadFit : List ℕ → ℕ → List ℕ → ℕ → ℕ → ℕ → List ℕ → ℕ → Fit
+aheadFit done d coming len idx start sets values =
+    cond (badText done d coming len sets || ltb len start) (Fit.Refused Shape)
+    (cond (leb len idx) (Fit.Refused Cursor)
+    (cond (ltb slots values) (Fit.Refused Values)
+    (cond (eqb start 0) (Fit.Refused Start) Fit.Fits)))
+
+-- backtrack: up to 64 values
+unfoldable pub backFit : List ℕ → ℕ → List ℕ → ℕ → ℕ → List ℕ → ℕ → Fit
+backFit done d coming len idx sets values =
+    cond (badText done d coming len sets) (Fit.Refused Shape)
+    (cond (leb len idx) (Fit.Refused Cursor)
+    (cond (ltb slots values) (Fit.Refused Values) Fit.Fits))
+
+abbrev pub inputUnless : Fit → InputMatch → InputMatch
+inputUnless Fit.Fits m = m
+inputUnless (Fit.Refused why) m = without (InputAnswer.Refused why)
+
+abbrev pub contextUnless : Fit → ContextMatch → ContextMatch
+contextUnless Fit.Fits m = m
+contextUnless (Fit.Refused why) m = ContextMatch.Refused why
+
+-- ---- the calls; `done` counts with its first d glyphs, `coming` with its first len
+
+unfoldable pub inputOf : List ℕ → ℕ → List ℕ → ℕ → ℕ → Lookup → List ℕ → Test → List ℕ → InputMatch
+inputOf done d coming len idx lookup sets test values =
+    let text = take len (glyphsOf coming) in
+    inputUnless (inputFit done d coming len idx sets (length values))
+    (inputTold text idx (inputOn lookup sets test (take d (glyphsOf done)) text idx values))
+
+unfoldable pub aheadOf : List ℕ → ℕ → List ℕ → ℕ → ℕ → ℕ → Lookup → List ℕ → Test → List ℕ → ContextMatch
+aheadOf done d coming len idx start lookup sets test values =
+    let text = take len (glyphsOf coming) in
+    contextUnless (aheadFit done d coming len idx start sets (length values))
+    (contextTold (ahead (length text)) start (aheadOn lookup sets test text start (getD text idx blank .syllable) values))
+
+unfoldable pub backOf : List ℕ → ℕ → List ℕ → ℕ → ℕ → Lookup → List ℕ → Test → List ℕ → ContextMatch
+backOf done d coming len idx lookup sets test values =
+    let text = take len (glyphsOf coming) in
+    let row = backwardGlyphs (lookup .settings .table) (take d (glyphsOf done)) (take idx text) in
+    contextUnless (backFit done d coming len idx sets (length values))
+    (contextTold behind (length row) (backOn lookup sets test row (getD text idx blank .syllable) values))

@@ -1,0 +1,10 @@
+pub mod Take
+pub mod Ligature
+pub mod Matchers
+pub mod Answers
+pub mod Calls
+pub mod LigatureLaws
+pub mod Going
+pub mod Accepted
+pub mod Demand2
+pub mod Demand2Laws

@@ -1,0 +1,75 @@
+-- The three matchers over a text of glyphs: what stands before it, the glyphs that come, and the cursor among them
+-- (01, "A glyph in four words" and port order 5). Each is `takes` with its judge, its rule and its way.
+use Prim.Native.Nat.{ℕ, _+_}
+use mathlib.Core.List.{List, []}
+use mathlib.Core.Bool.{Bool, true, false, cond}
+use lib.Dec.{ltb}
+use lib.ListN.{length, getD, take}
+use Rattle.glyph.specs.declared.Glyph.{Glyph}
+use Rattle.glyph.specs.Glyph.{blank}
+use Rattle.verdict.specs.declared.Matcher.{Matcher}
+use Rattle.verdict.specs.declared.Table.{Table}
+use Rattle.verdict.specs.declared.Table.the-variants.{Gsub, Gpos}
+use Rattle.verdict.specs.declared.Test.{Test}
+use Rattle.verdict.specs.declared.Verdict.{Verdict}
+use Rattle.verdict.specs.Matcher.{matcherOf}
+use Rattle.verdict.specs.Verdict.{judgeAt}
+use Rattle.matching.specs.declared.Lookup.{Lookup}
+use Rattle.matching.specs.Ligature.{mayJoin, baseSkips}
+use Rattle.matching.specs.Take.{Outcome, ahead, behind, takes}
+
+-- the verdict on a value and a place
+abbrev pub judge : Matcher → List ℕ → Test → ℕ → List Glyph → ℕ → ℕ → Verdict
+judge m sets test syllable gs x = judgeAt m (record { test = test; value = x }) syllable sets gs
+
+-- the ligature rule on a place, from the cursor
+abbrev pub joins : Matcher → List ℕ → List Glyph → List Glyph → ℕ → ℕ → Bool
+joins m sets searched coming idx q =
+    let first = getD coming idx blank in
+    mayJoin first (getD coming q blank) (baseSkips m sets (first .lig) searched)
+
+-- no rule on places
+abbrev pub anywhere : ℕ → Bool
+anywhere q = true
+
+-- input with a matcher; the starting syllable is the cursor glyph's, which is never tested
+unfoldable pub inputBy : Matcher → List ℕ → Test → List Glyph → List Glyph → ℕ → List ℕ → Outcome
+inputBy m sets test searched coming idx values =
+    takes (ahead (length coming)) (judge m sets test (getD coming idx blank .syllable) coming) (joins m sets searched coming idx) (idx + 1) values
+
+-- the search for a base goes back over `done`, under GPOS over nothing
+abbrev pub searchedGlyphs : Table → List Glyph → List Glyph
+searchedGlyphs Gsub done = done
+searchedGlyphs Gpos done = []
+
+abbrev pub inputMatcherOf : Lookup → Matcher
+inputMatcherOf lookup = matcherOf (lookup .settings) false (lookup .mask) (lookup .props)
+
+abbrev pub contextMatcherOf : Lookup → Matcher
+contextMatcherOf lookup = matcherOf (lookup .settings) true (lookup .mask) (lookup .props)
+
+-- ---- the three
+
+unfoldable pub inputOn : Lookup → List ℕ → Test → List Glyph → List Glyph → ℕ → List ℕ → Outcome
+inputOn lookup sets test done coming idx values =
+    inputBy (inputMatcherOf lookup) sets test (searchedGlyphs (lookup .settings .table) done) coming idx values
+
+-- from a start; the starting syllable is handed in
+unfoldable pub aheadOn : Lookup → List ℕ → Test → List Glyph → ℕ → ℕ → List ℕ → Outcome
+aheadOn lookup sets test coming start syllable values =
+    takes (ahead (length coming)) (judge (contextMatcherOf lookup) sets test syllable coming) anywhere start values
+
+-- from the end of the backward row
+unfoldable pub backOn : Lookup → List ℕ → Test → List Glyph → ℕ → List ℕ → Outcome
+backOn lookup sets test row syllable values =
+    takes behind (judge (contextMatcherOf lookup) sets test syllable row) anywhere (length row) values
+
+-- ---- the backward row: `done` for GSUB and, for GPOS, what of `coming` is before the cursor
+
+-- the first k glyphs; none where there are fewer
+abbrev pub firstOrNone : ℕ → List Glyph → List Glyph
+firstOrNone k gs = cond (ltb (length gs) k) [] (take k gs)
+
+abbrev pub backwardGlyphs : Table → List Glyph → List Glyph → List Glyph
+backwardGlyphs Gsub done before = done
+backwardGlyphs Gpos done before = before

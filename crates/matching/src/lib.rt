@@ -1,0 +1,534 @@
+// The matchers: input, lookahead and backtrack against a text, with the ligature rule and the backward row.
+use glyph::Glyph;
+use verdict::Matcher;
+use verdict::Settings;
+use verdict::Sign;
+use verdict::Table;
+use verdict::Test;
+use walk::Walked;
+ghost use mathlib.Core.Path.{_≡_};
+ghost use Prim.Native.Nat.{_≤_, _<_};
+ghost use lib.ListN.{length};
+ghost use Rattle.glyph.specs.Glyph.{limit, glyphsOf};
+ghost use Rattle.matching.specs.Take.{ahead, behind};
+ghost use Rattle.matching.specs.Ligature.{attached, baseNeeded, mayJoin, baseBefore, baseSkips, maySkip, looked};
+ghost use Rattle.matching.specs.Matchers.{inputBy, inputOn, aheadOn, backOn, firstOrNone, backwardGlyphs, searchedGlyphs};
+ghost use Rattle.matching.specs.Answers.{without, inputTold, contextTold};
+ghost use Rattle.matching.specs.Calls.{badText, inputFit, aheadFit, backFit, inputOf, aheadOf, backOf};
+
+// Positions of a match, at most.
+pub const MAX_CONTEXT_LENGTH: usize = 64;
+
+// What a lookup asks of a text, the same for every glyph.
+pub struct Lookup {
+    pub settings: Settings,
+    pub mask: u32,
+    pub props: u32,
+}
+
+// What a call is refused for before anything is matched.
+pub enum Refusal {
+    // Refusal 1.
+    Shape,
+    // Refusal 2.
+    Cursor,
+    // Refusal 3.
+    Values,
+    // Refusal 6.
+    Start,
+}
+
+pub enum Fit {
+    Fits,
+    Refused(Refusal),
+}
+
+pub enum InputAnswer {
+    // The last position and one more, and the total of component counts.
+    Matched { end: usize, total: u16 },
+    Refused(Refusal),
+    // A walk stopped or ran out, by its extent: refusal 4.
+    Lost(usize),
+    // The ligature rule: refusal 5.
+    Ligature,
+}
+
+// The answer, and the positions that it counts; the other slots are 0.
+pub struct InputMatch {
+    pub answer: InputAnswer,
+    pub count: usize,
+    pub positions: [u16; 64],
+}
+
+pub enum ContextMatch {
+    // Lookahead: the last place and one more, or the start. Backtrack: the last place, or the backward row's length.
+    Matched(usize),
+    Refused(Refusal),
+    // A walk stopped or ran out, by its extent: refusal 4.
+    Lost(usize),
+}
+
+// The values against the glyphs after the cursor.
+pub fn match_input(
+    done: &[u32],
+    d: usize,
+    coming: &[u32],
+    len: usize,
+    idx: usize,
+    lookup: Lookup,
+    sets: &[u16],
+    test: Test,
+    values: &[u32],
+) -> InputMatch
+    ensures { λ r. ⌜ r ≡ inputOf (now (done .entry)) d (now (coming .entry)) len idx lookup (now (sets .entry)) test (now (values .entry)) ⌝ }
+{
+    match input_fit(done, d, coming, len, idx, sets, values.len()) {
+        Fit::Refused(why) => return refuse(InputAnswer::Refused(why)),
+        Fit::Fits => {}
+    }
+    let before = glyph::first(done, d);
+    let text = glyph::first(coming, len);
+    input(before, text, idx, lookup, sets, test, values)
+}
+
+// The values against the glyphs from a start on.
+pub fn match_lookahead(
+    done: &[u32],
+    d: usize,
+    coming: &[u32],
+    len: usize,
+    idx: usize,
+    start: usize,
+    lookup: Lookup,
+    sets: &[u16],
+    test: Test,
+    values: &[u32],
+) -> ContextMatch
+    ensures { λ r. ⌜ r ≡ aheadOf (now (done .entry)) d (now (coming .entry)) len idx start lookup (now (sets .entry)) test (now (values .entry)) ⌝ }
+{
+    match ahead_fit(done, d, coming, len, idx, start, sets, values.len()) {
+        Fit::Refused(why) => return ContextMatch::Refused(why),
+        Fit::Fits => {}
+    }
+    let text = glyph::first(coming, len);
+    let cursor = glyph::read(text, idx);
+    lookahead(text, start, cursor.syllable, lookup, sets, test, values)
+}
+
+// The values against the glyphs of the backward row, from its end.
+pub fn match_backtrack<'a>(
+    done: &'a [u32],
+    d: usize,
+    coming: &'a [u32],
+    len: usize,
+    idx: usize,
+    lookup: Lookup,
+    sets: &[u16],
+    test: Test,
+    values: &[u32],
+) -> ContextMatch
+    ensures { λ r. ⌜ r ≡ backOf (now (done .entry)) d (now (coming .entry)) len idx lookup (now (sets .entry)) test (now (values .entry)) ⌝ }
+{
+    match back_fit(done, d, coming, len, idx, sets, values.len()) {
+        Fit::Refused(why) => return ContextMatch::Refused(why),
+        Fit::Fits => {}
+    }
+    let settings = lookup.settings;
+    let table = settings.table;
+    let text = glyph::first(coming, len);
+    let row = backward_row(table, done, d, text, idx);
+    let cursor = glyph::read(text, idx);
+    backtrack(row, cursor.syllable, lookup, sets, test, values)
+}
+
+// ---- what the calls are refused for
+
+// A text whose rows, lengths or mark sets are ill shaped.
+fn is_bad_text(done: &[u32], d: usize, coming: &[u32], len: usize, sets: &[u16]) -> bool
+    ensures { λ r. ⌜ r ≡ badText (now (done .entry)) d (now (coming .entry)) len (now (sets .entry)) ⌝ }
+{
+    glyph::is_ill_shaped(done)
+        | (glyph::count(done) < d)
+        | glyph::is_ill_shaped(coming)
+        | (glyph::count(coming) < len)
+        | glyph::is_odd(sets)
+}
+
+fn input_fit(
+    done: &[u32],
+    d: usize,
+    coming: &[u32],
+    len: usize,
+    idx: usize,
+    sets: &[u16],
+    values: usize,
+) -> Fit
+    ensures { λ r. ⌜ r ≡ inputFit (now (done .entry)) d (now (coming .entry)) len idx (now (sets .entry)) values ⌝ }
+{
+    if is_bad_text(done, d, coming, len, sets) {
+        return Fit::Refused(Refusal::Shape);
+    }
+    if len <= idx {
+        return Fit::Refused(Refusal::Cursor);
+    }
+    if MAX_CONTEXT_LENGTH <= values {
+        return Fit::Refused(Refusal::Values);
+    }
+    Fit::Fits
+}
+
+fn ahead_fit(
+    done: &[u32],
+    d: usize,
+    coming: &[u32],
+    len: usize,
+    idx: usize,
+    start: usize,
+    sets: &[u16],
+    values: usize,
+) -> Fit
+    ensures { λ r. ⌜ r ≡ aheadFit (now (done .entry)) d (now (coming .entry)) len idx start (now (sets .entry)) values ⌝ }
+{
+    if is_bad_text(done, d, coming, len, sets) | (len < start) {
+        return Fit::Refused(Refusal::Shape);
+    }
+    if len <= idx {
+        return Fit::Refused(Refusal::Cursor);
+    }
+    if MAX_CONTEXT_LENGTH < values {
+        return Fit::Refused(Refusal::Values);
+    }
+    if start == 0 {
+        return Fit::Refused(Refusal::Start);
+    }
+    Fit::Fits
+}
+
+fn back_fit(
+    done: &[u32],
+    d: usize,
+    coming: &[u32],
+    len: usize,
+    idx: usize,
+    sets: &[u16],
+    values: usize,
+) -> Fit
+    ensures { λ r. ⌜ r ≡ backFit (now (done .entry)) d (now (coming .entry)) len idx (now (sets .entry)) values ⌝ }
+{
+    if is_bad_text(done, d, coming, len, sets) {
+        return Fit::Refused(Refusal::Shape);
+    }
+    if len <= idx {
+        return Fit::Refused(Refusal::Cursor);
+    }
+    if MAX_CONTEXT_LENGTH < values {
+        return Fit::Refused(Refusal::Values);
+    }
+    Fit::Fits
+}
+
+// An answer that has no positions.
+fn refuse(answer: InputAnswer) -> InputMatch
+    ensures { λ r. ⌜ r ≡ without answer ⌝ }
+{
+    InputMatch {
+        answer,
+        count: 0,
+        positions: [0u16; 64],
+    }
+}
+
+// ---- the matchers over glyphs, every one of which counts
+
+// Input: `before` has the glyphs before the cursor's row, of which only GSUB's are searched.
+pub fn input(
+    before: &[u32],
+    text: &[u32],
+    idx: usize,
+    lookup: Lookup,
+    sets: &[u16],
+    test: Test,
+    values: &[u32],
+) -> InputMatch
+    requires { ⌜ (idx < length (glyphsOf (now text))) × (length (glyphsOf (now text)) ≤ limit) × (length (now values) < 64) ⌝ }
+    ensures { λ r. ⌜ r ≡ inputTold (glyphsOf (now (text .entry))) idx (inputOn lookup (now (sets .entry)) test (glyphsOf (now (before .entry))) (glyphsOf (now (text .entry))) idx (now (values .entry))) ⌝ }
+{
+    let settings = lookup.settings;
+    let table = settings.table;
+    let m = verdict::matcher_of(settings, false, lookup.mask, lookup.props);
+    let searched = searched_row(table, before);
+    take_input(searched, text, idx, m, sets, test, values)
+}
+
+// Under GPOS nothing is searched for a base.
+fn searched_row(table: Table, before: &[u32]) -> &[u32]
+    ensures { λ r. ⌜ glyphsOf (now r) ≡ searchedGlyphs table (glyphsOf (now (before .entry))) ⌝ }
+{
+    match table {
+        Table::Gsub => before,
+        Table::Gpos => glyph::first(before, 0),
+    }
+}
+
+fn take_input(
+    searched: &[u32],
+    text: &[u32],
+    idx: usize,
+    m: Matcher,
+    sets: &[u16],
+    test: Test,
+    values: &[u32],
+) -> InputMatch
+    requires { ⌜ (idx < length (glyphsOf (now text))) × (length (glyphsOf (now text)) ≤ limit) × (length (now values) < 64) ⌝ }
+    ensures { λ r. ⌜ r ≡ inputTold (glyphsOf (now (text .entry))) idx (inputBy m (now (sets .entry)) test (glyphsOf (now (searched .entry))) (glyphsOf (now (text .entry))) idx (now (values .entry))) ⌝ }
+{
+    let len = glyph::count(text);
+    let first = glyph::read(text, idx);
+    let mut positions = [0u16; 64];
+    positions[0] = idx as u16;
+    let mut total = first.count as u16;
+    let mut base = Ligbase::NotChecked;
+    let mut next = idx + 1;
+    let mut i = 0;
+    while i < values.len() {
+        let sign = Sign {
+            test,
+            value: values[i],
+        };
+        match walk::forward_from(text, len, next, m, sign, first.syllable, sets) {
+            Walked::Found(q) => {
+                let this = glyph::read(text, q);
+                base = look_for_base(base, first, this, searched, m, sets);
+                if !may_join(first, this, base) {
+                    return refuse(InputAnswer::Ligature);
+                }
+                next = q + 1;
+                i += 1;
+                positions[i] = q as u16;
+                total += this.ligated as u16;
+            }
+            Walked::Stopped(extent) => return refuse(InputAnswer::Lost(extent)),
+            Walked::RanOut(extent) => return refuse(InputAnswer::Lost(extent)),
+            // Only the walks that a user calls refuse.
+            Walked::Refused => return refuse(InputAnswer::Refused(Refusal::Shape)),
+        }
+    }
+    InputMatch {
+        answer: InputAnswer::Matched { end: next, total },
+        count: i + 1,
+        positions,
+    }
+}
+
+// Lookahead: the walk is handed the glyphs from the start on; what it answers is counted in the whole text.
+pub fn lookahead(
+    text: &[u32],
+    start: usize,
+    syllable: u8,
+    lookup: Lookup,
+    sets: &[u16],
+    test: Test,
+    values: &[u32],
+) -> ContextMatch
+    requires { ⌜ start ≤ length (glyphsOf (now text)) ⌝ }
+    ensures { λ r. ⌜ r ≡ contextTold (ahead (length (glyphsOf (now (text .entry))))) start (aheadOn lookup (now (sets .entry)) test (glyphsOf (now (text .entry))) start syllable (now (values .entry))) ⌝ }
+{
+    let m = verdict::matcher_of(lookup.settings, true, lookup.mask, lookup.props);
+    let onward = glyph::onward(text, start);
+    let len = glyph::count(onward);
+    let mut next = 0;
+    let mut i = 0;
+    while i < values.len() {
+        let sign = Sign {
+            test,
+            value: values[i],
+        };
+        match walk::forward_from(onward, len, next, m, sign, syllable, sets) {
+            Walked::Found(q) => {
+                next = q + 1;
+                i += 1;
+            }
+            Walked::Stopped(extent) => return ContextMatch::Lost(start + extent),
+            Walked::RanOut(extent) => return ContextMatch::Lost(start + extent),
+            // Only the walks that a user calls refuse.
+            Walked::Refused => return ContextMatch::Refused(Refusal::Shape),
+        }
+    }
+    ContextMatch::Matched(start + next)
+}
+
+// Backtrack, from the end of the backward row.
+pub fn backtrack(
+    row: &[u32],
+    syllable: u8,
+    lookup: Lookup,
+    sets: &[u16],
+    test: Test,
+    values: &[u32],
+) -> ContextMatch
+    ensures { λ r. ⌜ r ≡ contextTold behind (length (glyphsOf (now (row .entry)))) (backOn lookup (now (sets .entry)) test (glyphsOf (now (row .entry))) syllable (now (values .entry))) ⌝ }
+{
+    let m = verdict::matcher_of(lookup.settings, true, lookup.mask, lookup.props);
+    let mut place = glyph::count(row);
+    let mut i = 0;
+    while i < values.len() {
+        let sign = Sign {
+            test,
+            value: values[i],
+        };
+        match walk::backward_from(row, place, m, sign, syllable, sets) {
+            Walked::Found(q) => {
+                place = q;
+                i += 1;
+            }
+            Walked::Stopped(extent) => return ContextMatch::Lost(extent),
+            Walked::RanOut(extent) => return ContextMatch::Lost(extent),
+            // Only the walks that a user calls refuse.
+            Walked::Refused => return ContextMatch::Refused(Refusal::Shape),
+        }
+    }
+    ContextMatch::Matched(place)
+}
+
+// ---- the backward row
+
+// The first k glyphs of a row; none where it has fewer.
+fn first_or_none(row: &[u32], k: usize) -> &[u32]
+    ensures { λ r. ⌜ glyphsOf (now r) ≡ firstOrNone k (glyphsOf (now (row .entry))) ⌝ }
+{
+    if glyph::count(row) < k {
+        return glyph::first(row, 0);
+    }
+    glyph::first(row, k)
+}
+
+// The row's choice, with one lifetime.
+fn choose_row<'a>(
+    table: Table,
+    done: &'a [u32],
+    d: usize,
+    coming: &'a [u32],
+    idx: usize,
+) -> &'a [u32]
+    ensures { λ r. ⌜ glyphsOf (now r) ≡ backwardGlyphs table (firstOrNone d (glyphsOf (now (done .entry)))) (firstOrNone idx (glyphsOf (now (coming .entry)))) ⌝ }
+{
+    match table {
+        Table::Gsub => first_or_none(done, d),
+        Table::Gpos => first_or_none(coming, idx),
+    }
+}
+
+// The backward row, as a part of the row it stands in.
+pub fn backward_row<'d, 'c: 'd>(
+    table: Table,
+    done: &'d [u32],
+    d: usize,
+    coming: &'c [u32],
+    idx: usize,
+) -> &'d [u32]
+    ensures { λ r. ⌜ glyphsOf (now r) ≡ backwardGlyphs table (firstOrNone d (glyphsOf (now (done .entry)))) (firstOrNone idx (glyphsOf (now (coming .entry)))) ⌝ }
+{
+    choose_row(table, done, d, coming, idx)
+}
+
+// ---- the ligature rule
+
+pub enum Base {
+    At(usize),
+    Nothing,
+}
+
+// What is known of the base: the search is made at most once a match, and only when it is needed.
+pub enum Ligbase {
+    NotChecked,
+    MayNotSkip,
+    MaySkip,
+}
+
+// Back over glyphs, from the last to the first: the base of the ligature id.
+fn seek_base(row: &[u32], id: u8) -> Base
+    ensures { λ r. ⌜ r ≡ baseBefore id (glyphsOf (now (row .entry))) (length (glyphsOf (now (row .entry)))) ⌝ }
+{
+    let mut j = glyph::count(row);
+    loop {
+        if j == 0 {
+            break Base::Nothing;
+        }
+        j -= 1;
+        let g = glyph::read(row, j);
+        if g.lig == id {
+            if g.comp == 0 {
+                break Base::At(j);
+            }
+        } else {
+            break Base::Nothing;
+        }
+    }
+}
+
+// An ignorable base is found.
+fn is_base_skipped(row: &[u32], id: u8, m: Matcher, sets: &[u16]) -> bool
+    ensures { λ r. ⌜ r ≡ baseSkips m (now (sets .entry)) id (glyphsOf (now (row .entry))) ⌝ }
+{
+    match seek_base(row, id) {
+        Base::At(j) => verdict::is_skip_yes(m, sets, glyph::read(row, j)),
+        Base::Nothing => false,
+    }
+}
+
+fn is_attached(g: Glyph) -> bool
+    ensures { λ r. ⌜ r ≡ attached g ⌝ }
+{
+    (g.lig != 0) & (g.comp != 0)
+}
+
+// The first is attached, and the later glyph not to the same component: only a base lets it be taken.
+fn is_base_needed(first: Glyph, this: Glyph) -> bool
+    ensures { λ r. ⌜ r ≡ baseNeeded first this ⌝ }
+{
+    is_attached(first) & !((this.lig == first.lig) & (this.comp == first.comp))
+}
+
+fn look_for_base(
+    known: Ligbase,
+    first: Glyph,
+    this: Glyph,
+    row: &[u32],
+    m: Matcher,
+    sets: &[u16],
+) -> Ligbase
+    ensures { λ r. ⌜ r ≡ looked known (baseNeeded first this) (baseSkips m (now (sets .entry)) (first .lig) (glyphsOf (now (row .entry)))) ⌝ }
+{
+    match known {
+        Ligbase::NotChecked => {}
+        Ligbase::MayNotSkip => return Ligbase::MayNotSkip,
+        Ligbase::MaySkip => return Ligbase::MaySkip,
+    }
+    if !is_base_needed(first, this) {
+        return Ligbase::NotChecked;
+    }
+    if is_base_skipped(row, first.lig, m, sets) {
+        return Ligbase::MaySkip;
+    }
+    Ligbase::MayNotSkip
+}
+
+fn is_may_skip(base: Ligbase) -> bool
+    ensures { λ r. ⌜ r ≡ maySkip base ⌝ }
+{
+    match base {
+        Ligbase::NotChecked => false,
+        Ligbase::MayNotSkip => false,
+        Ligbase::MaySkip => true,
+    }
+}
+
+// A later glyph may be taken with the first.
+fn may_join(first: Glyph, this: Glyph, base: Ligbase) -> bool
+    ensures { λ r. ⌜ r ≡ mayJoin first this (maySkip base) ⌝ }
+{
+    if is_attached(first) {
+        return ((this.lig == first.lig) & (this.comp == first.comp)) | is_may_skip(base);
+    }
+    !is_attached(this) | (this.lig == first.lig)
+}
