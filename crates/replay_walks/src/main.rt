@@ -15,7 +15,6 @@ use verdict::Test;
 use verdict::Verdict;
 use verdict::VerdictAnswer;
 use walk::Walked;
-ghost use Rattle.io.specs.Counts.{Counts};
 
 struct Tally {
     differences: u64,
@@ -131,7 +130,7 @@ fn one(words: &[u32], at: usize) -> Replayed {
     let row = after(upto, 1);
     let end = after(row, size(words, upto));
     let mut sets = [0u16; 512];
-    let n = narrow(part(words, from, upto), &mut sets);
+    let n = stored::narrow(part(words, from, upto), &mut sets);
     answered(q, part(words, row, end), &sets[..n], words, end)
 }
 
@@ -178,21 +177,6 @@ fn test(n: u32) -> Test {
     } else {
         Test::Nothing
     }
-}
-
-// The words as 16-bit ones, as far as there is room, and how many.
-fn narrow(words: &[u32], out: &mut [u16]) -> usize
-    ensures { λ r. ⌜ Counts r (now (out .exit)) ⌝ }
-{
-    let mut k = 0;
-    while k < words.len() {
-        if out.len() <= k {
-            return k;
-        }
-        out[k] = (words[k] % 65536) as u16;
-        k += 1;
-    }
-    k
 }
 
 fn answered(q: Question, row: &[u32], sets: &[u16], words: &[u32], k: usize) -> Replayed {

@@ -1,9 +1,10 @@
 // Reads a stored list of questions and answers: words of eight hexadecimal digits, each with one byte after it.
 ghost use mathlib.Core.Bool.{cond};
 ghost use mathlib.Core.Path.{_≡_};
-ghost use Prim.Native.Nat.{ℕ, _+_, _*_, _/_, _≤_, _<_, min};
+ghost use Prim.Native.Nat.{ℕ, _+_, _*_, _/_, _%_, _≤_, _<_, min};
 ghost use lib.Dec.{ltb};
 ghost use lib.ListN.{length, getD};
+ghost use Rattle.io.specs.Counts.{Counts};
 ghost use Rattle.stored.specs.Stored.{digit, byteAt, wordFrom, wordAt, numberAt, partOf};
 
 // The words of a text, as far as they fit, and how many there are. What stands past them stays.
@@ -54,6 +55,21 @@ pub fn part(words: &[u32], from: usize, to: usize) -> &[u32]
         return &words[0..0];
     }
     &words[from..to]
+}
+
+// The words as 16-bit ones, as far as there is room, and how many. What stands past them stays.
+pub fn narrow(words: &[u32], out: &mut [u16]) -> usize
+    ensures { λ r. ⌜ Counts r (now (out .exit)) ⌝ }
+    ensures { λ r. ⌜ r ≡ min (length (now (words .entry))) (length (now (out .entry))) ⌝ }
+    ensures { λ r. ⌜ ((k : ℕ) → getD (now (out .exit)) k 0 ≡ cond (ltb k r) (getD (now (words .entry)) k 0 % 65536) (getD (now (out .entry)) k 0)) ⌝ }
+{
+    let n = least(words.len(), out.len());
+    let mut k = 0;
+    while k < n {
+        out[k] = (words[k] % 65536) as u16;
+        k += 1;
+    }
+    n
 }
 
 fn least(a: usize, b: usize) -> usize
