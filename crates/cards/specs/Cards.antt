@@ -1,50 +1,8 @@
--- The starred bench cards: what the definitions give, and what the paper says. (01, "Bench cards".)
--- Each answer is a list of lists of numbers, as the card reads from left to right; yes is 1.
-use mathlib.Core.Bool.{Bool, cond}
+-- The starred bench cards, in one list.
 use mathlib.Core.List.{List, [], _∷_}
-use Prim.Native.Nat.{ℕ, zero, suc}
-use Rattle.digest.specs.Digest.{Bits, none, added, ranged, mayHave}
-use Rattle.allowance.specs.Allowance.{opening}
-
-pub record Card : Type 0 where
-  pub given : List (List ℕ)
-  pub wanted : List (List ℕ)
-
-abbrev numbers : List ℕ → List (List ℕ)
-numbers ns = ns ∷ []
-
-abbrev yes : Bool → ℕ
-yes b = cond b 1 0
-
--- the bits below n that are set, the lowest first
-unfoldable pub bitsBelow : ℕ → (ℕ → Bool) → List ℕ → List ℕ
-bitsBelow zero f more = more
-bitsBelow (suc n) f more = bitsBelow n f (cond (f n) (n ∷ more) more)
-
--- the bits of each of the three masks
-unfoldable pub masksOf : Bits → List (List ℕ) → List (List ℕ)
-masksOf f more = bitsBelow 64 (f 0) [] ∷ bitsBelow 64 (f 1) [] ∷ bitsBelow 64 (f 2) [] ∷ more
-
--- K7: glyph 4,660 sets bits 35, 52, 8; 8,756 is then also admitted
-abbrev k7 : Card
-k7 = record {
-  given = let d = added 4660 none in masksOf d (numbers (yes (mayHave d 8756) ∷ []));
-  wanted = (35 ∷ []) ∷ (52 ∷ []) ∷ (8 ∷ []) ∷ (1 ∷ []) ∷ [];
-}
-
--- K8: range 62 to 65 sets 3, 4; 62, 63, 0, 1; 0, 1
-abbrev k8 : Card
-k8 = record {
-  given = masksOf (ranged 62 65 none) [];
-  wanted = (3 ∷ 4 ∷ []) ∷ (0 ∷ 1 ∷ 62 ∷ 63 ∷ []) ∷ (0 ∷ 1 ∷ []) ∷ [];
-}
-
--- K10: sizes 16,384, 16,385, 524,289 open 4,194,304, 4,194,560, 134,217,728
-abbrev k10 : Card
-k10 = record {
-  given = numbers (opening 16384 ∷ opening 16385 ∷ opening 524289 ∷ []);
-  wanted = numbers (4194304 ∷ 4194560 ∷ 134217728 ∷ []);
-}
+use Rattle.cards.specs.Card.{Card}
+use Rattle.cards.specs.Matches.{k1, k2, k3, k4, k5, k5-matched, k6}
+use Rattle.cards.specs.Sums.{k7, k8, k10}
 
 abbrev pub cards : List Card
-cards = k7 ∷ k8 ∷ k10 ∷ []
+cards = k1 ∷ k2 ∷ k3 ∷ k4 ∷ k5 ∷ k5-matched ∷ k6 ∷ k7 ∷ k8 ∷ k10 ∷ []

@@ -4,7 +4,18 @@ use mathlib.Core.Path.{_≡_, refl}
 use Prim.Native.Nat.{ℕ}
 use Rattle.bits.specs.Bits.{every, some}
 use Rattle.digest.specs.Digest.{ranged}
-use Rattle.cards.specs.Cards.{Card, cards, masksOf, bitsBelow}
+use Rattle.glyph.specs.Glyph.{blank}
+use Rattle.glyph.specs.Sets.{inSet}
+use Rattle.verdict.specs.Matcher.{inputMatcher, contextMatcher, matcherOf}
+use Rattle.verdict.specs.Verdict.{skipYes, ignorable, skipOf, ruledOut, valueOf, matchOf, verdict}
+use Rattle.walk.specs.Walk.{walk, walkFrom}
+use Rattle.matching.specs.Take.{takes, reached}
+use Rattle.matching.specs.Ligature.{mayJoin, baseBefore, baseSkips}
+use Rattle.matching.specs.Matchers.{inputBy, inputOn}
+use Rattle.matching.specs.Answers.{ligated}
+use Rattle.cards.specs.Card.{Card}
+use Rattle.cards.specs.Sums.{masksOf, bitsBelow}
+use Rattle.cards.specs.Cards.{cards}
 
 abbrev pub given : Card → List (List ℕ)
 given c = c .given
@@ -13,5 +24,5 @@ abbrev pub wanted : Card → List (List ℕ)
 wanted c = c .wanted
 
 pub all-cards : map given cards ≡ map wanted cards
-unfolding every some ranged masksOf bitsBelow
+unfolding every some ranged masksOf bitsBelow blank inSet inputMatcher contextMatcher matcherOf skipYes ignorable skipOf ruledOut valueOf matchOf verdict walk walkFrom takes reached mayJoin baseBefore baseSkips inputBy inputOn ligated
 all-cards = refl

@@ -1,2 +1,5 @@
+pub mod Card
+pub mod Matches
+pub mod Sums
 pub mod Cards
 pub mod Check

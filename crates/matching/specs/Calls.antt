@@ -24,27 +24,30 @@ unfoldable pub badText : List ℕ → ℕ → List ℕ → ℕ → List ℕ → 
 badText done d coming len sets =
     (((illShaped done || ltb (length (glyphsOf done)) d) || illShaped coming) || ltb (length (glyphsOf coming)) len) || oddSets sets
 
--- input: up to 63 values
+-- 1 comes before 2: a cursor at or past len
+abbrev pub onText : Bool → ℕ → ℕ → Fit → Fit
+onText bad len idx rest = cond bad (Fit.Refused Shape) (cond (leb len idx) (Fit.Refused Cursor) rest)
+
+-- 3: over 63 input or 64 context values
+abbrev pub manyInput : ℕ → Bool
+manyInput values = leb slots values
+
+abbrev pub manyContext : ℕ → Bool
+manyContext values = ltb slots values
+
 unfoldable pub inputFit : List ℕ → ℕ → List ℕ → ℕ → ℕ → List ℕ → ℕ → Fit
 inputFit done d coming len idx sets values =
-    cond (badText done d coming len sets) (Fit.Refused Shape)
-    (cond (leb len idx) (Fit.Refused Cursor)
-    (cond (leb slots values) (Fit.Refused Values) Fit.Fits))
+    onText (badText done d coming len sets) len idx (cond (manyInput values) (Fit.Refused Values) Fit.Fits)
 
--- lookahead: a start past len is 1 too, up to 64 values, a start 0 is 6
-unfoldable pub aheadFit : List ℕ → ℕ → List ℕ → ℕ → ℕ → ℕ → List ℕ → ℕ → Fit
-aheadFit done d coming len idx start sets values =
-    cond (badText done d coming len sets || ltb len start) (Fit.Refused Shape)
-    (cond (leb len idx) (Fit.Refused Cursor)
-    (cond (ltb slots values) (Fit.Refused Values)
-    (cond (eqb start 0) (Fit.Refused Start) Fit.Fits)))
-
--- backtrack: up to 64 values
 unfoldable pub backFit : List ℕ → ℕ → List ℕ → ℕ → ℕ → List ℕ → ℕ → Fit
 backFit done d coming len idx sets values =
-    cond (badText done d coming len sets) (Fit.Refused Shape)
-    (cond (leb len idx) (Fit.Refused Cursor)
-    (cond (ltb slots values) (Fit.Refused Values) Fit.Fits))
+    onText (badText done d coming len sets) len idx (cond (manyContext values) (Fit.Refused Values) Fit.Fits)
+
+-- a start past len is 1 too, and a start 0 is 6, also with no values
+unfoldable pub aheadFit : List ℕ → ℕ → List ℕ → ℕ → ℕ → ℕ → List ℕ → ℕ → Fit
+aheadFit done d coming len idx start sets values =
+    onText (badText done d coming len sets || ltb len start) len idx
+    (cond (manyContext values) (Fit.Refused Values) (cond (eqb start 0) (Fit.Refused Start) Fit.Fits))
 
 abbrev pub inputUnless : Fit → InputMatch → InputMatch
 inputUnless Fit.Fits m = m

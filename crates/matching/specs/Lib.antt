@@ -8,3 +8,7 @@ pub mod Going
 pub mod Accepted
 pub mod Demand2
 pub mod Demand2Laws
+pub mod Rising
+pub mod Shift
+pub mod Promises
+pub mod Kept

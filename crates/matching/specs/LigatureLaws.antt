@@ -11,11 +11,13 @@ use lib.Dec.{eqb}
 use lib.ListN.{length, getD}
 use Rattle.glyph.specs.declared.Glyph.{Glyph}
 use Rattle.glyph.specs.Glyph.{blank}
+use Rattle.verdict.specs.declared.Matcher.{Matcher}
+use Rattle.verdict.specs.Verdict.{skipYes}
 use Rattle.matching.specs.declared.Base.{Base}
 use Rattle.matching.specs.declared.Base.the-variants.{At, Nothing}
 use Rattle.matching.specs.declared.Ligbase.{Ligbase}
 use Rattle.matching.specs.declared.Ligbase.the-variants.{NotChecked, MayNotSkip, MaySkip}
-use Rattle.matching.specs.Ligature.{attached, together, mayJoin, baseBefore, baseNeeded, maySkip, looked}
+use Rattle.matching.specs.Ligature.{attached, together, mayJoin, baseBefore, skipsAt, baseSkips, baseNeeded, maySkip, looked}
 
 -- what the glyph at place k makes of the search from after it
 abbrev pub seen : Glyph → ℕ → ℕ → Base → Base
@@ -105,6 +107,28 @@ module _ (id : ℕ) (gs : List Glyph) where
 
   pub base-found : (n j : ℕ) → (baseBefore id gs n ≡ At j) ↔ IsBase id gs n j
   base-found n j = (sound n j, complete n j)
+
+  -- nothing is found exactly when there is no base
+  pub no-base : (n : ℕ) → baseBefore id gs n ≡ Nothing → (j : ℕ) → IsBase id gs n j → ⊥
+  no-base n e j b = let f = complete n j b in let z : _≡_ {A = ℕ} 0 1 = cc in omega arith
+
+-- a base that the matcher ignores
+pub record IgnoredBase (m : Matcher) (sets : List ℕ) (id : ℕ) (gs : List Glyph) : Type 0 where
+  pub place : ℕ
+  pub base : IsBase id gs (length gs) place
+  pub ignored : skipYes m sets (getD gs place blank) ≡ true
+
+module _ (m : Matcher) (sets : List ℕ) (id : ℕ) (gs : List Glyph) where
+  by-base : (b : Base) → baseBefore id gs (length gs) ≡ b → skipsAt m sets gs b ≡ true → IgnoredBase m sets id gs
+  by-base (At j) e y = record { place = j; base = base-found id gs (length gs) j .0 e; ignored = y }
+  by-base Nothing e y = absurd (true≢false (sym y))
+
+  pub base-skips : (baseSkips m sets id gs ≡ true) ↔ IgnoredBase m sets id gs
+  unfolding baseSkips
+  base-skips = (
+    by-base (baseBefore id gs (length gs)) refl,
+    λ b. ap (skipsAt m sets gs) (base-found id gs (length gs) (b .place) .1 (b .base)) ∙ b .ignored,
+  )
 
 -- ---- one search
 

@@ -38,7 +38,7 @@ pub enum Refusal {
     Start,
 }
 
-pub enum Fit {
+enum Fit {
     Fits,
     Refused(Refusal),
 }
@@ -240,7 +240,7 @@ fn refuse(answer: InputAnswer) -> InputMatch
 
 // ---- the matchers over glyphs, every one of which counts
 
-// Input: `before` has the glyphs before the cursor's row, of which only GSUB's are searched.
+// Input. The search for a base goes back over `before`, under GPOS over nothing.
 pub fn input(
     before: &[u32],
     text: &[u32],
@@ -433,13 +433,18 @@ pub fn backward_row<'d, 'c: 'd>(
 
 // ---- the ligature rule
 
-pub enum Base {
+// A ligature leaves the marks of its components side by side: of LAM, SHADDA, LAM, FATHA, HEH the letters become one, and SHADDA and FATHA
+// are then neighbours that must not become one mark. So glyphs attached to a ligature match together only within one component. Two
+// exceptions: a ligature may take in its own marks, and marks of different components may be taken together where the lookup ignores the
+// ligature that they belong to.
+
+enum Base {
     At(usize),
     Nothing,
 }
 
 // What is known of the base: the search is made at most once a match, and only when it is needed.
-pub enum Ligbase {
+enum Ligbase {
     NotChecked,
     MayNotSkip,
     MaySkip,

@@ -6,4 +6,3 @@ pub mod Laws
 pub mod Backward
 pub mod Parts
 pub mod Accepted
-pub mod Cards

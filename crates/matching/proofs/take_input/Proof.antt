@@ -1,9 +1,8 @@
--- The places taken so far are in their slots, and what all values take is what the values left take after them. Each turn takes one; what is
--- known of the base stays so. Assumes nothing.
+-- The places taken so far are in their slots, and what all values take is what the values left take after them. What is known of the base stays so. Assumes nothing.
 use Prim.Native.Nat.{ℕ, _+_, _-_, _*_, _^_, _≤_, _<_}
-use mathlib.Core.Path.{_≡_, refl, sym, ap, ap₂, _∙_, subst}
+use mathlib.Core.Path.{_≡_, sym, ap, ap₂, _∙_, subst}
 use mathlib.Core.List.{List, [], _∷_}
-use mathlib.Core.Bool.{Bool, true, false, cond}
+use mathlib.Core.Bool.{Bool, true, cond}
 use native.Mathlib.Omega.{arith}
 use borrow.Author.Needs.{needs}
 use borrow.Author.Tests.{not-true, not-false}
@@ -60,8 +59,7 @@ loop-holds c = let a = c .before .before .before .before .before .before .before
     let gs = glyphsOf (a .text .now) in
     let on : ℕ → ℕ → Verdict = judge (a .m) (a .sets .now) (a .test) (getD gs (a .idx) blank .syllable) gs in
     let ok = joins (a .m) (a .sets .now) (glyphsOf (a .searched .now)) gs (a .idx) in
-    let small : c .before .read .result .count ≤ 255 = omega arith in
-    let told = c .before .read .ensures in (
+    let small : c .before .read .result .count ≤ 255 = omega arith in let told = c .before .read .ensures in (
       subst (λ (g : Glyph). Going gs on ok (a .idx) (a .values .now) (slotted (a .idx ∷ [])) (g .count) (a .idx + 1) 0) (sym told)
           (going-none gs on ok (a .idx) (a .values .now) (c .before .before .before .before .before .before .before .pre .0) (subst (λ (g : Glyph). g .count ≤ 255) told small)),
       tt,
@@ -78,14 +76,17 @@ forward-from-requires c κs = search needs
 
 -- after the walk of a turn
 module _ (c : tie.After-forward-from Inv-loop μ-loop) where
+  abbrev start : tie.Start Inv-loop μ-loop
+  start = c .before .before .before .before .before .before .before .before .before .before .before
+
   abbrev gs : List Glyph
-  gs = glyphsOf (c .before .before .before .before .before .before .before .before .before .before .before .args .text .now)
+  gs = glyphsOf (start .args .text .now)
 
   abbrev values : List ℕ
-  values = c .before .before .before .before .before .before .before .before .before .before .before .args .values .now
+  values = start .args .values .now
 
   abbrev idx : ℕ
-  idx = c .before .before .before .before .before .before .before .before .before .before .before .args .idx
+  idx = start .args .idx
 
   abbrev i : ℕ
   i = c .before .before .before .loop .i
@@ -94,10 +95,10 @@ module _ (c : tie.After-forward-from Inv-loop μ-loop) where
   next = c .before .before .before .loop .next
 
   abbrev on : ℕ → ℕ → Verdict
-  on = let a = c .before .before .before .before .before .before .before .before .before .before .before .args in judge (a .m) (a .sets .now) (a .test) (getD gs idx blank .syllable) gs
+  on = let a = start .args in judge (a .m) (a .sets .now) (a .test) (getD gs idx blank .syllable) gs
 
   abbrev ok : ℕ → Bool
-  ok = let a = c .before .before .before .before .before .before .before .before .before .before .before .args in joins (a .m) (a .sets .now) (glyphsOf (a .searched .now)) gs idx
+  ok = let a = start .args in joins (a .m) (a .sets .now) (glyphsOf (a .searched .now)) gs idx
 
   -- what the values from here on take
   abbrev from : ℕ → List ℕ → Outcome
@@ -109,10 +110,9 @@ module _ (c : tie.After-forward-from Inv-loop μ-loop) where
   -- it is the walk that the definition makes
   walked : walkFrom (on (getD values i 0)) (length gs) next ≡ c .forward-from .result
   walked =
-      let a = c .before .before .before .before .before .before .before .before .before .before .before .args in
+      let a = start .args in
       let sign : Sign = record { test = a .test; value = getD values i 0 } in
-      sym
-      (c .forward-from .ensures
+      sym (c .forward-from .ensures
       ∙ ap₂ (λ (g : Glyph) (n : ℕ). walkFrom (judgeAt (a .m) sign (g .syllable) (a .sets .now) gs) n next) (c .before .before .before .before .before .read .ensures) (c .before .before .before .before .before .before .count .ensures))
 
   -- what it makes of the whole
@@ -143,23 +143,20 @@ module _ (c : tie.After-may-join Inv-loop μ-loop) where
   place = c .before .before .before .before .q .given .0 .0
 
   abbrev skips : Bool
-  skips = let a = walk .before .before .before .before .before .before .before .before .before .before .before .args in baseSkips (a .m) (a .sets .now) (walk .before .before .before .before .before .read .result .lig) (glyphsOf (a .searched .now))
+  skips = let a = start walk .args in baseSkips (a .m) (a .sets .now) (walk .before .before .before .before .before .read .result .lig) (glyphsOf (a .searched .now))
 
   -- the search made once tells the rule's answer
   kept : ok walk place ≡ c .may-join .result
   kept =
-      let a = walk .before .before .before .before .before .before .before .before .before .before .before .args in
-      let f = walk .before .before .before .before .before .read .result in
-      let t = c .before .before .read2 .result in
-      sym
-      (c .may-join .ensures ∙ ap (λ (b : Ligbase). mayJoin f t (maySkip b)) (c .before .look-for-base .ensures)
+      let a = start walk .args in
+      let f = walk .before .before .before .before .before .read .result in let t = c .before .before .read2 .result in
+      sym (c .may-join .ensures ∙ ap (λ (b : Ligbase). mayJoin f t (maySkip b)) (c .before .look-for-base .ensures)
       ∙ looked-serves (walk .before .before .before .loop .base) f t skips (walk .before .before .before .loop .inv .1)
       ∙ ap₂ (λ (f t : Glyph). mayJoin f t (baseSkips (a .m) (a .sets .now) (f .lig) (glyphsOf (a .searched .now)))) (walk .before .before .before .before .before .read .ensures) (c .before .before .read2 .ensures))
 
   known : Known (c .before .look-for-base .result) skips
   known =
-      subst (λ (b : Ligbase). Known b skips) (sym (c .before .look-for-base .ensures))
-      (looked-known (walk .before .before .before .loop .base) (baseNeeded (walk .before .before .before .before .before .read .result) (c .before .before .read2 .result)) skips (walk .before .before .before .loop .inv .1))
+      subst (λ (b : Ligbase). Known b skips) (sym (c .before .look-for-base .ensures)) (looked-known (walk .before .before .before .loop .base) (baseNeeded (walk .before .before .before .before .before .read .result) (c .before .before .read2 .result)) skips (walk .before .before .before .loop .inv .1))
 
   inside : place < length (gs walk)
   inside = within walk (Found place) (c .before .before .before .before .q .given .1)
@@ -168,43 +165,37 @@ module _ (c : tie.After-may-join Inv-loop μ-loop) where
       → Going (gs walk) (on walk) (ok walk) (idx walk) (values walk) (set (walk .before .before .before .loop .positions) (i walk + 1) place)
       (walk .before .before .before .loop .total + c .before .before .read2 .result .ligated) (place + 1) (i walk + 1)
   more e small =
-      let l = walk .before .before .before .loop in
-      let told = c .before .before .read2 .ensures in
-      subst
-      (λ (g : Glyph). Going (gs walk) (on walk) (ok walk) (idx walk) (values walk) (set (l .positions) (i walk + 1) place) (l .total + g .ligated) (place + 1) (i walk + 1))
-      (sym told)
-      (going-more (gs walk) (on walk) (ok walk) (idx walk) (values walk) (l .positions) (l .total) (next walk) (i walk) (going walk) place
-      (omega arith) (walk .before .before .before .before .before .before .before .before .before .before .before .pre .2) inside (subst (λ (g : Glyph). g .ligated ≤ 255) told small) (walked walk ∙ c .before .before .before .before .q .given .1) (kept ∙ e))
+      let l = walk .before .before .before .loop in let told = c .before .before .read2 .ensures in
+      subst (λ (g : Glyph). Going (gs walk) (on walk) (ok walk) (idx walk) (values walk) (set (l .positions) (i walk + 1) place) (l .total + g .ligated) (place + 1) (i walk + 1))
+      (sym told) (going-more (gs walk) (on walk) (ok walk) (idx walk) (values walk) (l .positions) (l .total) (next walk) (i walk) (going walk) place
+      (omega arith) (start walk .pre .2) inside (subst (λ (g : Glyph). g .ligated ≤ 255) told small) (walked walk ∙ c .before .before .before .before .q .given .1) (kept ∙ e))
 
 refuse-requires : tie.Need-refuse-requires Inv-loop μ-loop
 refuse-requires c κs = search needs
 
 returns : tie.Need-returns Inv-loop μ-loop
 unfolding inputBy
-returns c = let k = c .before .before in
-    let w = walk k in
+returns c = let k = c .before .before in let w = walk k in
     c .refuse .ensures
-    ∙ sym
-    (ap (inputTold (gs w) (idx w))
-    (whole w _ (c .before .before .before .before .before .before .q .given .1)
+    ∙ sym (ap (inputTold (gs w) (idx w)) (whole w _ (c .before .before .before .before .before .before .q .given .1)
     ∙ ap (λ (b : Bool). having (going w .qs) (cond b (having (place k ∷ []) (from w (place k + 1) (drop (i w + 1) (values w)))) unlike))
     (kept k ∙ not-true (k .may-join .result) (c .before .if1 .taken))))
 
 add-next-2 : tie.Need-add-next-2 Inv-loop μ-loop
-add-next-2 c = let w = walk (c .before) in let h = inside (c .before) in omega (arith, length-glyphsOf (w .before .before .before .before .before .before .before .before .before .before .before .args .text .now))
+add-next-2 c = let w = walk (c .before) in let h = inside (c .before) in omega (arith, length-glyphsOf (start w .args .text .now))
 
 add-i : tie.Need-add-i Inv-loop μ-loop
-add-i c = let w = walk (c .before) in let h = w .before .before .loop-test in omega (arith, w .before .before .before .before .before .before .before .before .before .before .before .pre .2)
+add-i c = let w = walk (c .before) in let h = w .before .before .loop-test in omega (arith, start w .pre .2)
 
 cast-positions-2 : tie.Need-cast-positions-2 Inv-loop μ-loop
 unfolding limit
-cast-positions-2 c = let w = walk (c .before) in let h = inside (c .before) in omega (arith, w .before .before .before .before .before .before .before .before .before .before .before .pre .1)
+cast-positions-2 c = let w = walk (c .before) in let h = inside (c .before) in omega (arith, start w .pre .1)
 
 mul-positions : tie.Need-mul-positions Inv-loop μ-loop
-mul-positions c = let w = walk (c .before) in let h = w .before .before .loop-test in omega (arith, w .before .before .before .before .before .before .before .before .before .before .before .pre .2)
+mul-positions c = let w = walk (c .before) in let h = w .before .before .loop-test in omega (arith, start w .pre .2)
 
 array-write-positions-2 : tie.Need-array-write-positions-2 Inv-loop μ-loop
-array-write-positions-2 c = let w = walk (c .before) in let h = w .before .before .loop-test in omega (arith, w .before .before .before .before .before .before .before .before .before .before .before .pre .2)
+array-write-positions-2 c = let w = walk (c .before) in let h = w .before .before .loop-test in omega (arith, start w .pre .2)
 
 cast-total-2 : tie.Need-cast-total-2 Inv-loop μ-loop
 cast-total-2 c = search needs
@@ -212,9 +203,8 @@ cast-total-2 c = search needs
 add-total : tie.Need-add-total Inv-loop μ-loop
 add-total c =
     let small : c .before .before .before .before .read2 .result .ligated ≤ 255 = omega (arith, c .struct-known2 .given) in
-    let w = walk (c .before .before) in
-    let h : i w < length (values w) = w .before .before .loop-test .taken in
-    let few : length (values w) < 64 = w .before .before .before .before .before .before .before .before .before .before .before .pre .2 in
+    let w = walk (c .before .before) in let h : i w < length (values w) = w .before .before .loop-test .taken in
+    let few : length (values w) < 64 = start w .pre .2 in
     let m : w .before .before .before .loop .total ≤ 255 * (i w + 1) = going w .small in
     let sum : w .before .before .before .loop .total + c .before .before .before .before .read2 .result .ligated < 2 ^ 16 = omega arith in
     record { fits = sum }
@@ -260,10 +250,8 @@ add-t40 c = search needs
 returns-5 : tie.Need-returns-5 Inv-loop μ-loop
 unfolding inputBy
 returns-5 c = let a = c .before .before .before .before .before .before .before .before .before .args in
-    let l = c .before .loop in
-    let gs = glyphsOf (a .text .now) in
-    sym
-    (going-done gs (judge (a .m) (a .sets .now) (a .test) (getD gs (a .idx) blank .syllable) gs) (joins (a .m) (a .sets .now) (glyphsOf (a .searched .now)) gs (a .idx))
+    let l = c .before .loop in let gs = glyphsOf (a .text .now) in
+    sym (going-done gs (judge (a .m) (a .sets .now) (a .test) (getD gs (a .idx) blank .syllable) gs) (joins (a .m) (a .sets .now) (glyphsOf (a .searched .now)) gs (a .idx))
     (a .idx) (a .values .now) (l .positions) (l .total) (l .next) (l .i) (l .inv .0) (omega arith))
 
 pub take-input-spec : {M : Type 1} → statement M
