@@ -39,12 +39,7 @@ fn texts() -> [Text; 6] {
     let among_others: Vec<u16> = others(99).chain([3, 9]).chain(others(100)).collect();
     let in_set_3 = 3 << 16 | 0x10;
     [
-        Text {
-            name: "marks under flag 8",
-            props: 8,
-            sets: vec![],
-            glyph: |_, _| MARK,
-        },
+        Text { name: "marks under flag 8", props: 8, sets: vec![], glyph: |_, _| MARK },
         Text {
             name: "marks of another attachment class",
             props: 0x200,
@@ -63,12 +58,7 @@ fn texts() -> [Text; 6] {
             sets: among_others,
             glyph: |_, _| IGNORABLE_MARK,
         },
-        Text {
-            name: "default ignorables",
-            props: 0,
-            sets: vec![],
-            glyph: |_, _| IGNORABLE,
-        },
+        Text { name: "default ignorables", props: 0, sets: vec![], glyph: |_, _| IGNORABLE },
         Text {
             name: "a mixture that stops at its last",
             props: 0x202,
@@ -131,8 +121,12 @@ fn line(
 /// `place` says what the program runs on.
 pub fn run(rounds: u32, place: &str) -> i32 {
     println!("timing: {place}");
-    println!("nanoseconds a glyph over {GLYPHS} glyphs, rows warm; best and median of {rounds} rounds,");
-    println!("the two sides by turns; the ratio is ours to the original's, below 1 where ours is faster");
+    println!(
+        "nanoseconds a glyph over {GLYPHS} glyphs, rows warm; best and median of {rounds} rounds,"
+    );
+    println!(
+        "the two sides by turns; the ratio is ours to the original's, below 1 where ours is faster"
+    );
     println!("  {:46} {:^15}  {:^15}  {:^13}", "", "original", "ours", "ratio");
     let two = |width: usize| format!("{:>width$} {:>width$}", "best", "median");
     println!("  {:46} {}  {}  {}", "", two(7), two(7), two(6));

@@ -193,17 +193,15 @@ impl Asker {
         sign: Sign,
     ) {
         let paper = self.paper_walk(case, (way, role), place, sign.test);
-        let original = |row: &mut Row| CWalked::of(Some(walked(row, (way, role), place, sign.test)));
+        let original =
+            |row: &mut Row| CWalked::of(Some(walked(row, (way, role), place, sign.test)));
         let ours = match way {
             Way::Forward => case.ours().forward(role, case.len, place, sign),
             Way::Backward => case.ours().backward(role, place, sign),
         };
-        self.settle(
-            case,
-            (original(row), ours, CWalked::of(Some(paper))),
-            original,
-            || format!("{way:?} from {place} {role:?} {sign:X?}"),
-        );
+        self.settle(case, (original(row), ours, CWalked::of(Some(paper))), original, || {
+            format!("{way:?} from {place} {role:?} {sign:X?}")
+        });
     }
 
     fn paper_walk(
@@ -274,20 +272,7 @@ pub const ALPHABET: [Glyph; 15] = [
     glyph(9, 1, 1, 1, 0x208),
 ];
 
-pub const PROPS: [u32; 12] = [
-    0,
-    2,
-    4,
-    8,
-    0xE,
-    0x10,
-    0x1_0010,
-    0x2_0010,
-    0x18,
-    0x100,
-    0x200,
-    0x110,
-];
+pub const PROPS: [u32; 12] = [0, 2, 4, 8, 0xE, 0x10, 0x1_0010, 0x2_0010, 0x18, 0x100, 0x200, 0x110];
 
 pub fn all_settings() -> impl Iterator<Item = Setup> {
     (0..16).map(|settings| Setup {
@@ -343,7 +328,8 @@ fn every_row(asker: &mut Asker) {
         for count in 0..=3u32 {
             for number in 0..ALPHABET.len().pow(count) {
                 let pick = |i| ALPHABET[number / ALPHABET.len().pow(i) % ALPHABET.len()];
-                let case = Case::new(setup.clone(), (0..count).map(pick).collect(), count as usize, 1);
+                let case =
+                    Case::new(setup.clone(), (0..count).map(pick).collect(), count as usize, 1);
                 with_row(&case.setup, &case.glyphs, case.len, case.syllable, |row| {
                     for place in 0..=case.len {
                         for role in ROLES {

@@ -93,7 +93,9 @@ fn sign(random: &mut Random, case: &Case) -> Sign {
     let test = draw::test(random);
     // What is looked for is often there.
     let test = match (test, random.one_in(2)) {
-        (Test::Equal(_), true) if !case.glyphs.is_empty() => Test::Equal(random.pick(&case.glyphs)[0]),
+        (Test::Equal(_), true) if !case.glyphs.is_empty() => {
+            Test::Equal(random.pick(&case.glyphs)[0])
+        }
         _ => test,
     };
     Sign { test, syllable: case.syllable, spare: random.below(256) as u32 }
