@@ -4,3 +4,5 @@ pub mod Lossless
 pub mod Reply
 pub mod Sets
 pub mod SetLaws
+pub mod Write
+pub mod WriteLaws

@@ -1,9 +1,11 @@
 // A row is a lent slice of words, WORDS of them a glyph. Only this crate knows where a glyph's words stand.
 ghost use mathlib.Core.Path.{_≡_};
-ghost use Prim.Native.Nat.{_≤_, _<_};
-ghost use lib.ListN.{length, getD, take, drop};
+ghost use Prim.Native.Nat.{_+_, _≤_, _<_};
+ghost use lib.ListN.{length, getD, set, take, drop, replicate};
+ghost use lib.Seq.{paste};
 ghost use Rattle.glyph.specs.Glyph.{glyphsOf, blank, illShaped};
 ghost use Rattle.glyph.specs.Sets.{inSet, oddSets};
+ghost use Rattle.glyph.specs.Write.{withId};
 
 pub const WORDS: usize = 4;
 
@@ -94,4 +96,42 @@ pub fn in_set(sets: &[u16], set: u32, id: u32) -> bool
         k += 1;
     }
     hit
+}
+
+// n glyphs of `from`, from glyph i on, are copied to the row `to`, from glyph j on.
+pub fn copy(to: &mut [u32], j: usize, from: &[u32], i: usize, n: usize)
+    requires { ⌜ (j + n ≤ length (glyphsOf (now to))) × (i + n ≤ length (glyphsOf (now from))) ⌝ }
+    ensures { λ _. ⌜ glyphsOf (now (to .exit)) ≡ paste (glyphsOf (now (to .entry))) j (drop i (glyphsOf (now (from .entry)))) n ⌝ }
+{
+    let x = WORDS * j;
+    let y = WORDS * i;
+    let end = WORDS * n;
+    let mut k = 0;
+    while k < end {
+        to[x + k] = from[y + k];
+        k += 1;
+    }
+}
+
+// Glyph i of the row gets the id.
+pub fn set_id(row: &mut [u32], i: usize, id: u32)
+    requires { ⌜ i < length (glyphsOf (now row)) ⌝ }
+    ensures { λ _. ⌜ glyphsOf (now (row .exit)) ≡ set (glyphsOf (now (row .entry))) i (withId id (getD (glyphsOf (now (row .entry))) i blank)) ⌝ }
+{
+    let x = WORDS * i;
+    row[x] = id;
+}
+
+// n glyphs of the row, from glyph j on, become blank.
+pub fn clear(row: &mut [u32], j: usize, n: usize)
+    requires { ⌜ j + n ≤ length (glyphsOf (now row)) ⌝ }
+    ensures { λ _. ⌜ glyphsOf (now (row .exit)) ≡ paste (glyphsOf (now (row .entry))) j (replicate n blank) n ⌝ }
+{
+    let x = WORDS * j;
+    let end = WORDS * n;
+    let mut k = 0;
+    while k < end {
+        row[x + k] = 0;
+        k += 1;
+    }
 }

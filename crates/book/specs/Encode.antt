@@ -1,0 +1,61 @@
+-- The words that a lookup is, and the limits that it keeps (01, "Records over a text"): a book is exactly the words of its lookups.
+use Prim.Native.Nat.{ℕ, _+_, _/_, _%_, _≤_, _<_}
+use mathlib.Core.List.{List, [], _∷_, _++_}
+use lib.ListN.{length, getD}
+use Rattle.book.specs.Book.{mostWords, mostLookups, mostIds, mostInput, mostSide, mostRecords, Record, Lookup, Kind1, Kind2, Kind3}
+
+-- the words of records
+unfoldable pub pairsOf : List Record → List ℕ
+pairsOf [] = []
+pairsOf (r ∷ rs) = r .seq ∷ r .lookup ∷ pairsOf rs
+
+abbrev pub kindOf : Lookup → ℕ
+kindOf (Kind1 props from to) = 1
+kindOf (Kind2 props from ids) = 2
+kindOf (Kind3 props first back input ahead records) = 3
+
+abbrev pub propsOf : Lookup → ℕ
+propsOf (Kind1 props from to) = props
+propsOf (Kind2 props from ids) = props
+propsOf (Kind3 props first back input ahead records) = props
+
+-- entries after their number
+abbrev pub numbered : ℕ → List ℕ → List ℕ → List ℕ
+numbered n entries rest = n ∷ entries ++ rest
+
+abbrev pub contentOf : Lookup → List ℕ
+contentOf (Kind1 props from to) = from ∷ to ∷ []
+contentOf (Kind2 props from ids) = from ∷ numbered (length ids) ids []
+contentOf (Kind3 props first back input ahead records) =
+    first ∷
+    numbered (length back) back
+    (numbered (length input) input (numbered (length ahead) ahead (numbered (length records) (pairsOf records) [])))
+
+-- kind, props low, props high, body length, body
+unfoldable pub encode : Lookup → List ℕ
+encode l = kindOf l ∷ propsOf l % 65536 ∷ propsOf l / 65536 ∷ length (contentOf l) ∷ contentOf l
+
+unfoldable pub encodeAll : List Lookup → List ℕ
+encodeAll [] = []
+encodeAll (l ∷ ls) = encode l ++ encodeAll ls
+
+-- words of 16 bits
+abbrev pub Narrow : List ℕ → Type 0
+Narrow ws = (k : ℕ) → getD ws k 0 < 65536
+
+-- a lookup within the limits
+abbrev pub Within : Lookup → Type 0
+Within (Kind1 props from to) = Unit {0}
+Within (Kind2 props from ids) = length ids ≤ mostIds
+Within (Kind3 props first back input ahead records) =
+    (length back ≤ mostSide) × (length input ≤ mostInput) × (length ahead ≤ mostSide) × (length records ≤ mostRecords)
+
+unfoldable pub AllWithin : List Lookup → Type 0
+AllWithin [] = Unit {0}
+AllWithin (l ∷ ls) = Within l × AllWithin ls
+
+-- a list of lookups that is a book
+pub record Legal (ls : List Lookup) : Type 0 where
+  pub each : AllWithin ls
+  pub few : length ls ≤ mostLookups
+  pub short : length (encodeAll ls) ≤ mostWords

@@ -1,0 +1,13 @@
+pub mod Book
+pub mod Encode
+pub mod Places
+pub mod Records
+pub mod Widened
+pub mod Bodies
+pub mod Inside
+pub mod Readings
+pub mod Starts
+pub mod Finds
+pub mod Written
+pub mod Only
+pub mod Cards

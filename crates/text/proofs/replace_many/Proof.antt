@@ -1,0 +1,95 @@
+-- After k turns the first k copies stand from glyph d on; after n they are the replaced text. Assumes nothing.
+use native.Mathlib.Omega.{arith}
+use Prim.Native.Nat.{_≤_, _<_, _+_, _-_}
+use mathlib.Core.Path.{_≡_, refl, sym, ap, _∙_}
+use lib.ListN.{length, getD}
+use lib.Seq.{paste, paste-zero}
+use Rattle.glyph.specs.Glyph.{glyphsOf, blank}
+use Rattle.glyph.specs.Laws.{length-same, length-glyphsOf}
+use Rattle.text.specs.Text.{copies}
+use Rattle.text.specs.Laws.{sizes, copies-more, replaced-is}
+use Rattle.text.proofs.replace_many.Statement.{statement}
+use Rattle.text.proofs.replace_many.Tie as tie
+
+abbrev Inv-loop : tie.InvT-loop
+Inv-loop done₀ coming ids d idx n k₀ done k =
+    (k ≤ n) × (length done ≡ length done₀) × (d + n ≤ length (glyphsOf done₀)) × (idx < length (glyphsOf coming))
+    × (glyphsOf done ≡ paste (glyphsOf done₀) d (copies ids (getD (glyphsOf coming) idx blank)) k)
+
+abbrev μ-loop : tie.MeasureT-loop
+μ-loop done₀ coming ids d idx n k₀ done k = n - k
+
+loop-holds : tie.Need-loop-holds Inv-loop μ-loop
+loop-holds c = let q = c .before .before .before in let z = sizes (q .args .done .now) (q .args .coming .now) (q .args .s) (q .pre .0) in (
+  omega arith,
+  refl,
+  omega arith,
+  omega arith,
+  paste-zero (glyphsOf (q .args .done .now)) (q .args .s .d) (copies (q .args .ids .now) (getD (glyphsOf (q .args .coming .now)) (q .args .s .idx) blank)),
+)
+
+mul-id : tie.Need-mul-id Inv-loop μ-loop
+mul-id c = omega arith
+
+shared-slice-read-id : tie.Need-shared-slice-read-id Inv-loop μ-loop
+shared-slice-read-id c = omega arith
+
+cast-id : tie.Need-cast-id Inv-loop μ-loop
+cast-id c = omega (arith, c .shared-slice-known3 .given (c .before .before .loop .k))
+
+add-write : tie.Need-add-write Inv-loop μ-loop
+add-write c = omega arith
+
+write-requires : tie.Need-write-requires Inv-loop μ-loop
+write-requires c κs = let l = c .before .before .before .loop in
+    omega (arith, length-same (l .done) (c .before .before .before .before .before .before .before .args .done .now) (l .inv .1))
+
+add-k : tie.Need-add-k Inv-loop μ-loop
+add-k c = omega arith
+
+loop-less : tie.Need-loop-less Inv-loop μ-loop
+loop-less c = omega arith
+
+loop-again : tie.Need-loop-again Inv-loop μ-loop
+loop-again c = let a = c .before .before .before .before .before .before .before .before .before .before .args in let l = c .before .before .before .before .before .before .loop in let y = c .before .before .write in (
+  omega arith,
+  y .kept .0 ∙ l .inv .1,
+  l .inv .2,
+  l .inv .3,
+  y .ensures
+      ∙ rw (l .inv .4) (copies-more (glyphsOf (a .done .now)) (a .s .d) (l .k) (a .ids .now) (getD (glyphsOf (a .coming .now)) (a .s .idx) blank) (omega arith) (omega arith)),
+)
+
+add-t17 : tie.Need-add-t17 Inv-loop μ-loop
+add-t17 c = let q = c .before .before .before .before .before in let z = sizes (q .args .done .now) (q .args .coming .now) (q .args .s) (q .pre .0) in omega arith
+
+add-t18 : tie.Need-add-t18 Inv-loop μ-loop
+add-t18 c = let q = c .before .before .before .before .before in let z = sizes (q .args .done .now) (q .args .coming .now) (q .args .s) (q .pre .0) in omega arith
+
+same-length : tie.Need-same-length Inv-loop μ-loop
+same-length c = c .before .loop .inv .1
+
+returns : tie.Need-returns Inv-loop μ-loop
+returns c = let q = c .before .before .before .before .before in let a = q .args in let l = c .before .loop in
+    let e : l .k ≡ length (a .ids .now) = omega arith in
+    replaced-is (a .done .now) (a .coming .now) (a .s) (q .pre .0) (l .done) (a .ids .now) (l .inv .1) (q .pre .1) (q .pre .2) (rw e at (l .inv .4))
+
+pub replace-many-spec : {M : Type 1} → statement M
+replace-many-spec =
+    tie.close
+    (tie.spec
+    Inv-loop
+    μ-loop
+    loop-holds
+    mul-id
+    shared-slice-read-id
+    cast-id
+    add-write
+    write-requires
+    add-k
+    loop-less
+    loop-again
+    add-t17
+    add-t18
+    same-length
+    returns)

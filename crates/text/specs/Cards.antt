@@ -1,0 +1,21 @@
+-- K11 and K13 on texts: lists of glyphs, and no offset.
+use mathlib.Core.Path.{_≡_, refl}
+use mathlib.Core.List.{List, [], _∷_, map}
+use Prim.Native.Nat.{ℕ}
+use Rattle.glyph.specs.declared.Glyph.{Glyph}
+use Rattle.glyph.specs.Glyph.{glyphOf}
+use Rattle.glyph.specs.Write.{withId}
+use Rattle.text.specs.Text.{Text, movedTo, replaced}
+
+abbrev sign : ℕ → Glyph
+sign id = glyphOf (id ∷ 1 ∷ 0 ∷ 257 ∷ [])
+
+abbrev given : Text
+given = record { glyphs = sign 1 ∷ sign 2 ∷ sign 3 ∷ []; cursor = 0 }
+
+pub k11 : movedTo 4 (replaced (2 ∷ 2 ∷ []) (movedTo 1 given)) ≡ record { glyphs = sign 1 ∷ sign 2 ∷ sign 2 ∷ sign 3 ∷ []; cursor = 4 }
+unfolding withId
+k11 = refl
+
+pub k13 : movedTo 2 (replaced [] (movedTo 1 given)) ≡ record { glyphs = sign 1 ∷ sign 3 ∷ []; cursor = 2 }
+k13 = refl

@@ -1,0 +1,5 @@
+pub mod Text
+pub mod Laws
+pub mod Changes
+pub mod Decided
+pub mod Cards
