@@ -1,4 +1,4 @@
--- Every card in one check: the definitions give what the paper says.
+-- Every card in one check: the definitions give what the paper says. And every example beside them in another.
 use mathlib.Core.List.{List, map}
 use mathlib.Core.Path.{_≡_, refl}
 use Prim.Native.Nat.{ℕ}
@@ -8,14 +8,15 @@ use Rattle.glyph.specs.Glyph.{blank}
 use Rattle.glyph.specs.Sets.{inSet}
 use Rattle.verdict.specs.Matcher.{inputMatcher, contextMatcher, matcherOf}
 use Rattle.verdict.specs.Verdict.{skipYes, ignorable, skipOf, ruledOut, valueOf, matchOf, verdict}
-use Rattle.walk.specs.Walk.{walk, walkFrom}
+use Rattle.walk.specs.Walk.{walk, walkFrom, walkBack}
 use Rattle.matching.specs.Take.{takes, reached}
-use Rattle.matching.specs.Ligature.{mayJoin, baseBefore, baseSkips}
-use Rattle.matching.specs.Matchers.{inputBy, inputOn}
+use Rattle.ligature.specs.Ligature.{mayJoin, baseBefore, baseSkips}
+use Rattle.matching.specs.Matchers.{inputBy, inputOn, aheadOn, backOn}
 use Rattle.matching.specs.Answers.{ligated}
 use Rattle.cards.specs.Card.{Card}
 use Rattle.cards.specs.Sums.{masksOf, bitsBelow}
 use Rattle.cards.specs.Cards.{cards}
+use Rattle.cards.specs.Examples.{examples}
 
 abbrev pub given : Card → List (List ℕ)
 given c = c .given
@@ -26,3 +27,7 @@ wanted c = c .wanted
 pub all-cards : map given cards ≡ map wanted cards
 unfolding every some ranged masksOf bitsBelow blank inSet inputMatcher contextMatcher matcherOf skipYes ignorable skipOf ruledOut valueOf matchOf verdict walk walkFrom takes reached mayJoin baseBefore baseSkips inputBy inputOn ligated
 all-cards = refl
+
+pub all-examples : map given examples ≡ map wanted examples
+unfolding blank inSet inputMatcher contextMatcher matcherOf skipYes ignorable skipOf ruledOut valueOf matchOf verdict walk walkFrom walkBack takes reached mayJoin baseBefore baseSkips inputBy inputOn aheadOn backOn ligated
+all-examples = refl

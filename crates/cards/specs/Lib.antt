@@ -2,4 +2,5 @@ pub mod Card
 pub mod Matches
 pub mod Sums
 pub mod Cards
+pub mod Examples
 pub mod Check

@@ -4,7 +4,7 @@ use mathlib.Core.Path.{_≡_, refl}
 use mathlib.Core.List.{List}
 use mathlib.Core.Bool.{Bool, true, false, cond, _||_}
 use native.Mathlib.Omega.{arith}
-use borrow.Author.Tests.{ltb-false, leb-false, eqb-false}
+use borrow.Author.Tests.{ltb-false, leb-false}
 use lib.Dec.{eqb, ltb, leb}
 use lib.ListN.{length}
 use Rattle.bits.specs.Laws.{neither-left, neither-right}
@@ -14,7 +14,7 @@ use Rattle.glyph.specs.Sets.{oddSets}
 use Rattle.matching.specs.declared.Refusal.{Refusal}
 use Rattle.matching.specs.declared.Refusal.the-variants.{Shape, Cursor, Values, Start}
 use Rattle.matching.specs.declared.Fit.{Fit}
-use Rattle.matching.specs.Answers.{slots}
+use Rattle.matching.specs.Take.{slots}
 use Rattle.matching.specs.Calls.{badText, inputFit, aheadFit, backFit}
 
 -- the parts that count are in their rows, and the cursor is in its part

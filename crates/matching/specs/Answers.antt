@@ -10,11 +10,7 @@ use Rattle.matching.specs.declared.Refusal.the-variants.{Shape, Cursor, 
 use Rattle.matching.specs.declared.InputAnswer.{InputAnswer}
 use Rattle.matching.specs.declared.InputMatch.{InputMatch}
 use Rattle.matching.specs.declared.ContextMatch.{ContextMatch}
-use Rattle.matching.specs.Take.{Way, ahead, Outcome, taken, lost, unlike, reached}
-
--- slots for positions
-abbrev pub slots : ℕ
-slots = 64
+use Rattle.matching.specs.Take.{slots, Way, ahead, Outcome, taken, lost, unlike, reached}
 
 -- positions in their slots, unused ones 0
 abbrev pub slotted : List ℕ → List ℕ

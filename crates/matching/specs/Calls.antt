@@ -4,20 +4,18 @@ use mathlib.Core.List.{List}
 use mathlib.Core.Bool.{Bool, cond, _||_}
 use lib.Dec.{eqb, ltb, leb}
 use lib.ListN.{length, getD, take}
-use Rattle.glyph.specs.declared.Glyph.{Glyph}
 use Rattle.glyph.specs.Glyph.{glyphsOf, illShaped, blank}
 use Rattle.glyph.specs.Sets.{oddSets}
 use Rattle.verdict.specs.declared.Test.{Test}
 use Rattle.matching.specs.declared.Lookup.{Lookup}
-use Rattle.matching.specs.declared.Refusal.{Refusal}
 use Rattle.matching.specs.declared.Refusal.the-variants.{Shape, Cursor, Values, Start}
 use Rattle.matching.specs.declared.Fit.{Fit}
 use Rattle.matching.specs.declared.InputAnswer.{InputAnswer}
 use Rattle.matching.specs.declared.InputMatch.{InputMatch}
 use Rattle.matching.specs.declared.ContextMatch.{ContextMatch}
-use Rattle.matching.specs.Take.{ahead, behind}
+use Rattle.matching.specs.Take.{slots, ahead, behind}
 use Rattle.matching.specs.Matchers.{inputOn, aheadOn, backOn, backwardGlyphs}
-use Rattle.matching.specs.Answers.{slots, without, inputTold, contextTold}
+use Rattle.matching.specs.Answers.{without, inputTold, contextTold}
 
 -- 1: a row not whole glyphs or over the limit, d or len past its row, odd mark sets
 unfoldable pub badText : List ℕ → ℕ → List ℕ → ℕ → List ℕ → Bool

@@ -10,7 +10,7 @@ use mathlib.Core.Bool.{Bool, true, false}
 use mathlib.Core.Logic.{_↔_, _⊎_}
 use Rattle.verdict.specs.declared.Verdict.{Verdict}
 use Rattle.walk.specs.Means.{Finds, Stops, RunsOut, FindsBack, StopsBack, RunsOutBack}
-use Rattle.matching.specs.Take.{Way, ahead, behind, past, Outcome, taken, lost, unlike, takes}
+use Rattle.matching.specs.Take.{Way, ahead, behind, past, taken, lost, unlike, takes}
 
 -- from p on, q is the first place that isn't passed over, and it matches
 abbrev pub Takes : Way → (ℕ → Verdict) → ℕ → ℕ → Type 0

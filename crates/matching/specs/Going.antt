@@ -1,8 +1,8 @@
 -- The matchers' loops a value at a time: what has been taken, and that the whole is what is left from here.
-use Prim.Native.Nat.{ℕ, zero, suc, _+_, _-_, _*_, _≤_, _<_}
+use Prim.Native.Nat.{ℕ, suc, _+_, _-_, _*_, _≤_, _<_}
 use mathlib.Core.Path.{_≡_, refl, sym, ap, _∙_}
 use mathlib.Core.List.{List, [], _∷_, _++_, append-assoc, append-nil}
-use mathlib.Core.Bool.{Bool, true, false, cond}
+use mathlib.Core.Bool.{Bool, true, cond}
 use native.Mathlib.Omega.{arith}
 use native.Mathlib.Numerals.{add-one}
 use lib.ListN.{length, getD, drop, replicate, set, length-append, length-drop, drop-of-length-le}
@@ -22,9 +22,9 @@ use Rattle.walk.specs.Backward.{back-means}
 use Rattle.walk.specs.Parts.{raised, walk-onward}
 use Rattle.matching.specs.declared.InputAnswer.{InputAnswer}
 use Rattle.matching.specs.declared.ContextMatch.{ContextMatch}
-use Rattle.matching.specs.Take.{Way, ahead, behind, walkBy, past, Outcome, taken, lost, unlike, having, follow, takes, reached}
+use Rattle.matching.specs.Take.{slots, Way, ahead, walkBy, past, Outcome, taken, lost, unlike, having, follow, takes, reached}
 use Rattle.matching.specs.Matchers.{anywhere}
-use Rattle.matching.specs.Answers.{slots, slotted, ligated, totalOf, matchedAt, inputTold, contextTold}
+use Rattle.matching.specs.Answers.{slotted, ligated, totalOf, inputTold, contextTold}
 
 -- ---- what a walk's answer keeps to
 

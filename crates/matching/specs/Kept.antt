@@ -1,7 +1,7 @@
 -- The calls keep demand 2, and are refused exactly as their table says. The reply of an outcome tells the outcome.
 use Prim.Native.Nat.{ℕ, suc, _+_, _-_}
-use mathlib.Core.Path.{_≡_, refl, sym, ap, _∙_, subst}
-use mathlib.Core.List.{List, [], _∷_, _++_}
+use mathlib.Core.Path.{_≡_, refl, sym, ap, _∙_}
+use mathlib.Core.List.{List, [], _∷_}
 use mathlib.Core.Bool.{Bool}
 use mathlib.Core.Logic.{_↔_}
 use native.Mathlib.Omega.{arith}
@@ -14,16 +14,15 @@ use Rattle.verdict.specs.declared.Test.{Test}
 use Rattle.verdict.specs.declared.Verdict.{Verdict}
 use Rattle.matching.specs.declared.Lookup.{Lookup}
 use Rattle.matching.specs.declared.Refusal.{Refusal}
-use Rattle.matching.specs.declared.Refusal.the-variants.{Shape, Cursor, Values, Start}
 use Rattle.matching.specs.declared.Fit.{Fit}
 use Rattle.matching.specs.declared.InputAnswer.{InputAnswer}
 use Rattle.matching.specs.declared.InputMatch.{InputMatch}
 use Rattle.matching.specs.declared.ContextMatch.{ContextMatch}
-use Rattle.matching.specs.Take.{Way, ahead, behind, Outcome, taken, lost, unlike, takes, reached}
+use Rattle.matching.specs.Take.{slots, Way, ahead, behind, Outcome, taken, lost, unlike, takes, reached}
 use Rattle.matching.specs.Matchers.{judge, anywhere, contextMatcherOf, inputBy, inputOn, aheadOn, backOn, backwardGlyphs}
-use Rattle.matching.specs.Answers.{slots, slotted, without, totalOf, matchedAt, inputTold, contextTold, refusalNumber, inputReply, contextReply}
+use Rattle.matching.specs.Answers.{slotted, without, totalOf, inputTold, contextTold, inputReply, contextReply}
 use Rattle.matching.specs.Calls.{inputFit, aheadFit, backFit, inputUnless, contextUnless, inputOf, aheadOf, backOf}
-use Rattle.matching.specs.Demand2.{Accepts, Loses, TurnsDown}
+use Rattle.matching.specs.Demand2.{Loses}
 use Rattle.matching.specs.Demand2Laws.{demand-2, never-turned}
 use Rattle.matching.specs.Promises.{replies, inputSuccess, InputPromise, Leads, ContextPromise, inputJudge, inputRule, contextJudge}
 

@@ -1,9 +1,7 @@
 pub mod Take
-pub mod Ligature
 pub mod Matchers
 pub mod Answers
 pub mod Calls
-pub mod LigatureLaws
 pub mod Going
 pub mod Accepted
 pub mod Demand2

@@ -1,12 +1,12 @@
 -- The three matchers over a text of glyphs: what stands before it, the glyphs that come, and the cursor among them
 -- (01, "A glyph in four words" and port order 5). Each is `takes` with its judge, its rule and its way.
-use Prim.Native.Nat.{ℕ, _+_}
+use Prim.Native.Nat.{ℕ, _+_, _≤_, _<_}
 use mathlib.Core.List.{List, []}
 use mathlib.Core.Bool.{Bool, true, false, cond}
 use lib.Dec.{ltb}
 use lib.ListN.{length, getD, take}
 use Rattle.glyph.specs.declared.Glyph.{Glyph}
-use Rattle.glyph.specs.Glyph.{blank}
+use Rattle.glyph.specs.Glyph.{limit, blank}
 use Rattle.verdict.specs.declared.Matcher.{Matcher}
 use Rattle.verdict.specs.declared.Table.{Table}
 use Rattle.verdict.specs.declared.Table.the-variants.{Gsub, Gpos}
@@ -15,8 +15,8 @@ use Rattle.verdict.specs.declared.Verdict.{Verdict}
 use Rattle.verdict.specs.Matcher.{matcherOf}
 use Rattle.verdict.specs.Verdict.{judgeAt}
 use Rattle.matching.specs.declared.Lookup.{Lookup}
-use Rattle.matching.specs.Ligature.{mayJoin, baseSkips}
-use Rattle.matching.specs.Take.{Outcome, ahead, behind, takes}
+use Rattle.ligature.specs.Ligature.{mayJoin, baseSkips}
+use Rattle.matching.specs.Take.{slots, Outcome, ahead, behind, takes}
 
 -- the verdict on a value and a place
 abbrev pub judge : Matcher → List ℕ → Test → ℕ → List Glyph → ℕ → ℕ → Verdict
@@ -50,6 +50,10 @@ contextMatcherOf lookup = matcherOf (lookup .settings) true (lookup .mask) (look
 
 -- ---- the three
 
+-- what input matching is handed once a call isn't refused
+abbrev pub InputReady : List Glyph → ℕ → List ℕ → Type 0
+InputReady coming idx values = (idx < length coming) × (length coming ≤ limit) × (length values < slots)
+
 unfoldable pub inputOn : Lookup → List ℕ → Test → List Glyph → List Glyph → ℕ → List ℕ → Outcome
 inputOn lookup sets test done coming idx values =
     inputBy (inputMatcherOf lookup) sets test (searchedGlyphs (lookup .settings .table) done) coming idx values
@@ -70,6 +74,10 @@ backOn lookup sets test row syllable values =
 abbrev pub firstOrNone : ℕ → List Glyph → List Glyph
 firstOrNone k gs = cond (ltb (length gs) k) [] (take k gs)
 
+-- what comes before the text, or before the cursor in it
 abbrev pub backwardGlyphs : Table → List Glyph → List Glyph → List Glyph
 backwardGlyphs Gsub done before = done
 backwardGlyphs Gpos done before = before
+
+abbrev pub backwardRow : Table → List Glyph → ℕ → List Glyph → ℕ → List Glyph
+backwardRow table done d coming idx = backwardGlyphs table (firstOrNone d done) (firstOrNone idx coming)

@@ -5,17 +5,17 @@ use mathlib.Core.Path.{_≡_}
 use mathlib.Core.List.{List, [], _∷_}
 use mathlib.Core.Bool.{Bool}
 use mathlib.Core.Logic.{_↔_}
-use lib.ListN.{length, getD, take}
+use lib.ListN.{length, getD}
 use Rattle.glyph.specs.declared.Glyph.{Glyph}
-use Rattle.glyph.specs.Glyph.{glyphsOf, blank}
+use Rattle.glyph.specs.Glyph.{blank}
 use Rattle.glyph.specs.Reply.{Reply}
 use Rattle.verdict.specs.declared.Test.{Test}
 use Rattle.verdict.specs.declared.Verdict.{Verdict}
 use Rattle.matching.specs.declared.Lookup.{Lookup}
 use Rattle.matching.specs.declared.InputMatch.{InputMatch}
 use Rattle.matching.specs.declared.ContextMatch.{ContextMatch}
-use Rattle.matching.specs.Take.{Way, ahead, behind, reached}
-use Rattle.matching.specs.Matchers.{judge, joins, anywhere, inputMatcherOf, contextMatcherOf, searchedGlyphs, backwardGlyphs}
+use Rattle.matching.specs.Take.{Way, ahead, reached}
+use Rattle.matching.specs.Matchers.{judge, joins, anywhere, inputMatcherOf, contextMatcherOf, searchedGlyphs}
 use Rattle.matching.specs.Answers.{totalOf, matchedAt, inputReply, contextReply}
 use Rattle.matching.specs.Demand2.{Accepts, Loses, TurnsDown}
 

@@ -1,7 +1,7 @@
 -- Matching over a text from a place on is matching over what stands from there, with every place and extent raised by it.
-use Prim.Native.Nat.{ℕ, zero, suc, _+_, _≤_, _<_}
+use Prim.Native.Nat.{ℕ, _+_, _≤_}
 use mathlib.Core.Path.{_≡_, refl, sym, ap, ap₂, _∙_}
-use mathlib.Core.List.{List, [], _∷_, _++_, map}
+use mathlib.Core.List.{List, [], _∷_, map}
 use mathlib.Core.Bool.{Bool, true, false, cond}
 use native.Mathlib.Omega.{arith}
 use lib.ListN.{length, getD, drop, length-drop}
@@ -19,7 +19,7 @@ use Rattle.walk.specs.Laws.{walk-means}
 use Rattle.walk.specs.Parts.{raised, walk-shift, walk-same, back-same}
 use Rattle.matching.specs.declared.Lookup.{Lookup}
 use Rattle.matching.specs.Take.{Way, ahead, behind, walkBy, past, Outcome, taken, lost, unlike, having, follow, takes, reached}
-use Rattle.matching.specs.Ligature.{mayJoin, baseSkips}
+use Rattle.ligature.specs.Ligature.{mayJoin, baseSkips}
 use Rattle.matching.specs.Matchers.{judge, joins, anywhere, inputMatcherOf, contextMatcherOf, searchedGlyphs, inputBy, inputOn, aheadOn}
 use Rattle.matching.specs.Answers.{ligated, totalOf}
 

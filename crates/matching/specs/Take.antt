@@ -7,6 +7,10 @@ use Rattle.walk.specs.declared.Walked.{Walked}
 use Rattle.walk.specs.declared.Walked.the-variants.{Found, Stopped, RanOut, Refused}
 use Rattle.walk.specs.Walk.{walkFrom, walkBack}
 
+-- positions of a match, at most: the cursor and 63 values of input, or 64 values of a context
+abbrev pub slots : ℕ
+slots = 64
+
 -- forward over so many glyphs, or backward
 pub data Way : Type 0 where
   ahead : ℕ → Way

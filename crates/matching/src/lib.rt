@@ -1,5 +1,5 @@
-// The matchers: input, lookahead and backtrack against a text, with the ligature rule and the backward row.
-use glyph::Glyph;
+// The matchers: input, lookahead and backtrack against a text, and the backward row.
+use ligature::Ligbase;
 use verdict::Matcher;
 use verdict::Settings;
 use verdict::Sign;
@@ -7,12 +7,11 @@ use verdict::Table;
 use verdict::Test;
 use walk::Walked;
 ghost use mathlib.Core.Path.{_≡_};
-ghost use Prim.Native.Nat.{_≤_, _<_};
+ghost use Prim.Native.Nat.{_≤_};
 ghost use lib.ListN.{length};
-ghost use Rattle.glyph.specs.Glyph.{limit, glyphsOf};
+ghost use Rattle.glyph.specs.Glyph.{glyphsOf};
 ghost use Rattle.matching.specs.Take.{ahead, behind};
-ghost use Rattle.matching.specs.Ligature.{attached, baseNeeded, mayJoin, baseBefore, baseSkips, maySkip, looked};
-ghost use Rattle.matching.specs.Matchers.{inputBy, inputOn, aheadOn, backOn, firstOrNone, backwardGlyphs, searchedGlyphs};
+ghost use Rattle.matching.specs.Matchers.{InputReady, inputBy, inputOn, aheadOn, backOn, firstOrNone, backwardRow, searchedGlyphs};
 ghost use Rattle.matching.specs.Answers.{without, inputTold, contextTold};
 ghost use Rattle.matching.specs.Calls.{badText, inputFit, aheadFit, backFit, inputOf, aheadOf, backOf};
 
@@ -38,7 +37,8 @@ pub enum Refusal {
     Start,
 }
 
-enum Fit {
+// What the tests before matching say.
+pub enum Fit {
     Fits,
     Refused(Refusal),
 }
@@ -250,7 +250,7 @@ pub fn input(
     test: Test,
     values: &[u32],
 ) -> InputMatch
-    requires { ⌜ (idx < length (glyphsOf (now text))) × (length (glyphsOf (now text)) ≤ limit) × (length (now values) < 64) ⌝ }
+    requires { ⌜ InputReady (glyphsOf (now text)) idx (now values) ⌝ }
     ensures { λ r. ⌜ r ≡ inputTold (glyphsOf (now (text .entry))) idx (inputOn lookup (now (sets .entry)) test (glyphsOf (now (before .entry))) (glyphsOf (now (text .entry))) idx (now (values .entry))) ⌝ }
 {
     let settings = lookup.settings;
@@ -279,7 +279,7 @@ fn take_input(
     test: Test,
     values: &[u32],
 ) -> InputMatch
-    requires { ⌜ (idx < length (glyphsOf (now text))) × (length (glyphsOf (now text)) ≤ limit) × (length (now values) < 64) ⌝ }
+    requires { ⌜ InputReady (glyphsOf (now text)) idx (now values) ⌝ }
     ensures { λ r. ⌜ r ≡ inputTold (glyphsOf (now (text .entry))) idx (inputBy m (now (sets .entry)) test (glyphsOf (now (searched .entry))) (glyphsOf (now (text .entry))) idx (now (values .entry))) ⌝ }
 {
     let len = glyph::count(text);
@@ -298,8 +298,8 @@ fn take_input(
         match walk::forward_from(text, len, next, m, sign, first.syllable, sets) {
             Walked::Found(q) => {
                 let this = glyph::read(text, q);
-                base = look_for_base(base, first, this, searched, m, sets);
-                if !may_join(first, this, base) {
+                base = ligature::look_for_base(base, first, this, searched, m, sets);
+                if !ligature::may_join(first, this, base) {
                     return refuse(InputAnswer::Ligature);
                 }
                 next = q + 1;
@@ -410,7 +410,7 @@ fn choose_row<'a>(
     coming: &'a [u32],
     idx: usize,
 ) -> &'a [u32]
-    ensures { λ r. ⌜ glyphsOf (now r) ≡ backwardGlyphs table (firstOrNone d (glyphsOf (now (done .entry)))) (firstOrNone idx (glyphsOf (now (coming .entry)))) ⌝ }
+    ensures { λ r. ⌜ glyphsOf (now r) ≡ backwardRow table (glyphsOf (now (done .entry))) d (glyphsOf (now (coming .entry))) idx ⌝ }
 {
     match table {
         Table::Gsub => first_or_none(done, d),
@@ -426,114 +426,7 @@ pub fn backward_row<'d, 'c: 'd>(
     coming: &'c [u32],
     idx: usize,
 ) -> &'d [u32]
-    ensures { λ r. ⌜ glyphsOf (now r) ≡ backwardGlyphs table (firstOrNone d (glyphsOf (now (done .entry)))) (firstOrNone idx (glyphsOf (now (coming .entry)))) ⌝ }
+    ensures { λ r. ⌜ glyphsOf (now r) ≡ backwardRow table (glyphsOf (now (done .entry))) d (glyphsOf (now (coming .entry))) idx ⌝ }
 {
     choose_row(table, done, d, coming, idx)
-}
-
-// ---- the ligature rule
-
-// A ligature leaves the marks of its components side by side: of LAM, SHADDA, LAM, FATHA, HEH the letters become one, and SHADDA and FATHA
-// are then neighbours that must not become one mark. So glyphs attached to a ligature match together only within one component. Two
-// exceptions: a ligature may take in its own marks, and marks of different components may be taken together where the lookup ignores the
-// ligature that they belong to.
-
-enum Base {
-    At(usize),
-    Nothing,
-}
-
-// What is known of the base: the search is made at most once a match, and only when it is needed.
-enum Ligbase {
-    NotChecked,
-    MayNotSkip,
-    MaySkip,
-}
-
-// Back over glyphs, from the last to the first: the base of the ligature id.
-fn seek_base(row: &[u32], id: u8) -> Base
-    ensures { λ r. ⌜ r ≡ baseBefore id (glyphsOf (now (row .entry))) (length (glyphsOf (now (row .entry)))) ⌝ }
-{
-    let mut j = glyph::count(row);
-    loop {
-        if j == 0 {
-            break Base::Nothing;
-        }
-        j -= 1;
-        let g = glyph::read(row, j);
-        if g.lig == id {
-            if g.comp == 0 {
-                break Base::At(j);
-            }
-        } else {
-            break Base::Nothing;
-        }
-    }
-}
-
-// An ignorable base is found.
-fn is_base_skipped(row: &[u32], id: u8, m: Matcher, sets: &[u16]) -> bool
-    ensures { λ r. ⌜ r ≡ baseSkips m (now (sets .entry)) id (glyphsOf (now (row .entry))) ⌝ }
-{
-    match seek_base(row, id) {
-        Base::At(j) => verdict::is_skip_yes(m, sets, glyph::read(row, j)),
-        Base::Nothing => false,
-    }
-}
-
-fn is_attached(g: Glyph) -> bool
-    ensures { λ r. ⌜ r ≡ attached g ⌝ }
-{
-    (g.lig != 0) & (g.comp != 0)
-}
-
-// The first is attached, and the later glyph not to the same component: only a base lets it be taken.
-fn is_base_needed(first: Glyph, this: Glyph) -> bool
-    ensures { λ r. ⌜ r ≡ baseNeeded first this ⌝ }
-{
-    is_attached(first) & !((this.lig == first.lig) & (this.comp == first.comp))
-}
-
-fn look_for_base(
-    known: Ligbase,
-    first: Glyph,
-    this: Glyph,
-    row: &[u32],
-    m: Matcher,
-    sets: &[u16],
-) -> Ligbase
-    ensures { λ r. ⌜ r ≡ looked known (baseNeeded first this) (baseSkips m (now (sets .entry)) (first .lig) (glyphsOf (now (row .entry)))) ⌝ }
-{
-    match known {
-        Ligbase::NotChecked => {}
-        Ligbase::MayNotSkip => return Ligbase::MayNotSkip,
-        Ligbase::MaySkip => return Ligbase::MaySkip,
-    }
-    if !is_base_needed(first, this) {
-        return Ligbase::NotChecked;
-    }
-    if is_base_skipped(row, first.lig, m, sets) {
-        return Ligbase::MaySkip;
-    }
-    Ligbase::MayNotSkip
-}
-
-fn is_may_skip(base: Ligbase) -> bool
-    ensures { λ r. ⌜ r ≡ maySkip base ⌝ }
-{
-    match base {
-        Ligbase::NotChecked => false,
-        Ligbase::MayNotSkip => false,
-        Ligbase::MaySkip => true,
-    }
-}
-
-// A later glyph may be taken with the first.
-fn may_join(first: Glyph, this: Glyph, base: Ligbase) -> bool
-    ensures { λ r. ⌜ r ≡ mayJoin first this (maySkip base) ⌝ }
-{
-    if is_attached(first) {
-        return ((this.lig == first.lig) & (this.comp == first.comp)) | is_may_skip(base);
-    }
-    !is_attached(this) | (this.lig == first.lig)
 }

@@ -1,7 +1,7 @@
 -- The answer from the start with all values is the answer from start + next with the values left. Each turn takes one: the walk over the
 -- part from the start on is the walk over the whole text, counted from the start. Assumes nothing.
 use Prim.Native.Nat.{ℕ, _+_, _-_, _≤_}
-use mathlib.Core.Path.{_≡_, refl, sym, ap, _∙_}
+use mathlib.Core.Path.{_≡_, sym, ap, _∙_}
 use native.Mathlib.Omega.{arith}
 use native.Mathlib.Nat.{add-zero, add-assoc}
 use borrow.Author.Needs.{needs}

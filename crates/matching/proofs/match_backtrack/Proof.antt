@@ -3,10 +3,10 @@ use Prim.Native.Nat.{_≤_}
 use mathlib.Core.Path.{_≡_, sym, ap, _∙_}
 use native.Mathlib.Omega.{arith}
 use borrow.Author.Tests.{le-ltb}
-use lib.ListN.{length, take}
+use lib.ListN.{length}
 use lib.Seq.{length-take-le}
 use Rattle.glyph.specs.Glyph.{glyphsOf}
-use Rattle.matching.specs.Answers.{slots}
+use Rattle.matching.specs.Take.{slots}
 use Rattle.matching.specs.Calls.{backOf}
 use Rattle.matching.specs.Accepted.{Good, back-good}
 use borrow.Author.Needs.{needs}

@@ -5,7 +5,7 @@ use native.Mathlib.Omega.{arith}
 use lib.ListN.{length}
 use lib.Seq.{length-take-le}
 use Rattle.glyph.specs.Glyph.{glyphsOf}
-use Rattle.matching.specs.Answers.{slots}
+use Rattle.matching.specs.Take.{slots}
 use Rattle.matching.specs.Calls.{inputOf}
 use Rattle.matching.specs.Accepted.{Good, input-good}
 use borrow.Author.Needs.{needs}

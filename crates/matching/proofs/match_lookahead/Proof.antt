@@ -5,7 +5,7 @@ use native.Mathlib.Omega.{arith}
 use lib.ListN.{length}
 use lib.Seq.{length-take-le}
 use Rattle.glyph.specs.Glyph.{glyphsOf}
-use Rattle.matching.specs.Answers.{slots}
+use Rattle.matching.specs.Take.{slots}
 use Rattle.matching.specs.Calls.{aheadOf}
 use Rattle.matching.specs.Accepted.{Good, ahead-good}
 use borrow.Author.Needs.{needs}

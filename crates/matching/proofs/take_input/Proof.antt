@@ -16,10 +16,10 @@ use Rattle.verdict.specs.Verdict.{judgeAt}
 use Rattle.walk.specs.declared.Walked.{Walked}
 use Rattle.walk.specs.declared.Walked.the-variants.{Found, Refused}
 use Rattle.walk.specs.Walk.{walkFrom}
-use Rattle.matching.specs.declared.Ligbase.{Ligbase}
+use Rattle.ligature.specs.declared.Ligbase.{Ligbase}
 use Rattle.matching.specs.Take.{ahead, Outcome, unlike, having, follow, takes}
-use Rattle.matching.specs.Ligature.{mayJoin, baseSkips, baseNeeded, maySkip}
-use Rattle.matching.specs.LigatureLaws.{Known, looked-known, looked-serves}
+use Rattle.ligature.specs.Ligature.{mayJoin, baseSkips, baseNeeded, maySkip}
+use Rattle.ligature.specs.Laws.{Known, looked-known, looked-serves}
 use Rattle.matching.specs.Matchers.{judge, joins, inputBy}
 use Rattle.matching.specs.Answers.{slotted, inputTold}
 use Rattle.matching.specs.Going.{Going, going-none, going-more, going-done, turn, Within, walk-within}

@@ -2,11 +2,11 @@
 use mathlib.Core.Path.{sym, _∙_}
 use lib.ListN.{length}
 use Rattle.glyph.specs.Glyph.{glyphsOf}
-use Rattle.matching.specs.Ligature.{baseSkips}
-use Rattle.matching.specs.LigatureLaws.{base-found}
+use Rattle.ligature.specs.Ligature.{baseSkips}
+use Rattle.ligature.specs.Laws.{base-found}
 use borrow.Author.Needs.{needs}
-use Rattle.matching.proofs.is_base_skipped.Statement.{statement}
-use Rattle.matching.proofs.is_base_skipped.Tie as tie
+use Rattle.ligature.proofs.is_base_skipped.Statement.{statement}
+use Rattle.ligature.proofs.is_base_skipped.Tie as tie
 
 seek-base-requires : tie.Need-seek-base-requires
 seek-base-requires c κs = search needs

@@ -8,10 +8,10 @@ use Rattle.glyph.specs.declared.Glyph.{Glyph}
 use Rattle.glyph.specs.Glyph.{blank}
 use Rattle.verdict.specs.declared.Matcher.{Matcher}
 use Rattle.verdict.specs.Verdict.{skipYes}
-use Rattle.matching.specs.declared.Base.{Base}
-use Rattle.matching.specs.declared.Base.the-variants.{At, Nothing}
-use Rattle.matching.specs.declared.Ligbase.{Ligbase}
-use Rattle.matching.specs.declared.Ligbase.the-variants.{NotChecked, MayNotSkip, MaySkip}
+use Rattle.ligature.specs.declared.Base.{Base}
+use Rattle.ligature.specs.declared.Base.the-variants.{At, Nothing}
+use Rattle.ligature.specs.declared.Ligbase.{Ligbase}
+use Rattle.ligature.specs.declared.Ligbase.the-variants.{NotChecked, MayNotSkip, MaySkip}
 
 -- nonzero id and component
 abbrev pub attached : Glyph → Bool

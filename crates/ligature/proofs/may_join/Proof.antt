@@ -1,8 +1,8 @@
 -- The test of the first, then the definition's tests. Assumes nothing.
-use Rattle.matching.specs.Ligature.{mayJoin}
+use Rattle.ligature.specs.Ligature.{mayJoin}
 use borrow.Author.Needs.{needs}
-use Rattle.matching.proofs.may_join.Statement.{statement}
-use Rattle.matching.proofs.may_join.Tie as tie
+use Rattle.ligature.proofs.may_join.Statement.{statement}
+use Rattle.ligature.proofs.may_join.Tie as tie
 
 is-attached-requires : tie.Need-is-attached-requires
 is-attached-requires c κs = search needs

@@ -1,8 +1,8 @@
 -- Where nothing is known and a base is needed, the search decides. Assumes nothing.
 use borrow.Author.Tests.{not-true, not-false}
 use borrow.Author.Needs.{needs}
-use Rattle.matching.proofs.look_for_base.Statement.{statement}
-use Rattle.matching.proofs.look_for_base.Tie as tie
+use Rattle.ligature.proofs.look_for_base.Statement.{statement}
+use Rattle.ligature.proofs.look_for_base.Tie as tie
 
 enum-told : tie.Need-enum-told
 enum-told c = search needs

@@ -1,5 +1,5 @@
 -- The search for the base a glyph at a time; what base it finds; and that one search, made when it is needed, serves the rule.
-use Prim.Native.Nat.{ℕ, zero, suc, _+_, _≤_, _<_}
+use Prim.Native.Nat.{ℕ, zero, suc, _≤_, _<_}
 use mathlib.Core.Path.{_≡_, refl, sym, ap, _∙_, subst}
 use mathlib.Core.List.{List}
 use mathlib.Core.Logic.{_↔_, ⊎-elim}
@@ -13,11 +13,11 @@ use Rattle.glyph.specs.declared.Glyph.{Glyph}
 use Rattle.glyph.specs.Glyph.{blank}
 use Rattle.verdict.specs.declared.Matcher.{Matcher}
 use Rattle.verdict.specs.Verdict.{skipYes}
-use Rattle.matching.specs.declared.Base.{Base}
-use Rattle.matching.specs.declared.Base.the-variants.{At, Nothing}
-use Rattle.matching.specs.declared.Ligbase.{Ligbase}
-use Rattle.matching.specs.declared.Ligbase.the-variants.{NotChecked, MayNotSkip, MaySkip}
-use Rattle.matching.specs.Ligature.{attached, together, mayJoin, baseBefore, skipsAt, baseSkips, baseNeeded, maySkip, looked}
+use Rattle.ligature.specs.declared.Base.{Base}
+use Rattle.ligature.specs.declared.Base.the-variants.{At, Nothing}
+use Rattle.ligature.specs.declared.Ligbase.{Ligbase}
+use Rattle.ligature.specs.declared.Ligbase.the-variants.{NotChecked, MayNotSkip, MaySkip}
+use Rattle.ligature.specs.Ligature.{attached, together, mayJoin, baseBefore, skipsAt, baseSkips, baseNeeded, maySkip, looked}
 
 -- what the glyph at place k makes of the search from after it
 abbrev pub seen : Glyph → ℕ → ℕ → Base → Base

@@ -1,15 +1,15 @@
 -- The search from the end is the search from j: the glyphs from j on have the id and a component. Assumes nothing.
-use Prim.Native.Nat.{ℕ, suc, _-_, _≤_}
+use Prim.Native.Nat.{_-_, _≤_}
 use mathlib.Core.Path.{_≡_, sym, _∙_}
 use native.Mathlib.Omega.{arith}
 use borrow.Author.Needs.{needs}
 use borrow.Author.Tests.{eq-eqb, ne-eqb}
 use lib.ListN.{length}
 use Rattle.glyph.specs.Glyph.{glyphsOf}
-use Rattle.matching.specs.Ligature.{baseBefore}
-use Rattle.matching.specs.LigatureLaws.{seen, seek-on, seek-end}
-use Rattle.matching.proofs.seek_base.Statement.{statement}
-use Rattle.matching.proofs.seek_base.Tie as tie
+use Rattle.ligature.specs.Ligature.{baseBefore}
+use Rattle.ligature.specs.Laws.{seen, seek-on, seek-end}
+use Rattle.ligature.proofs.seek_base.Statement.{statement}
+use Rattle.ligature.proofs.seek_base.Tie as tie
 
 abbrev Inv-loop : tie.InvT-loop
 Inv-loop row id j₀ j = (j ≤ length (glyphsOf row)) × (baseBefore id (glyphsOf row) (length (glyphsOf row)) ≡ baseBefore id (glyphsOf row) j)

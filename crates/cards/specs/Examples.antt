@@ -1,0 +1,73 @@
+-- Examples beside the cards: lookahead, backtrack and the ligature rule on small texts, in the numbers and values of their replies.
+use mathlib.Core.Bool.{false}
+use mathlib.Core.List.{List, [], _∷_}
+use Prim.Native.Nat.{ℕ}
+use lib.ListN.{length}
+use Rattle.glyph.specs.declared.Glyph.{Glyph}
+use Rattle.glyph.specs.Reply.{Reply}
+use Rattle.verdict.specs.declared.Table.{Table}
+use Rattle.verdict.specs.declared.Table.the-variants.{Gsub, Gpos}
+use Rattle.verdict.specs.declared.Test.the-variants.{Equal}
+use Rattle.matching.specs.declared.Lookup.{Lookup}
+use Rattle.matching.specs.Take.{ahead, behind}
+use Rattle.matching.specs.Matchers.{inputOn, aheadOn, backOn}
+use Rattle.matching.specs.Answers.{inputTold, contextTold, inputReply, contextReply}
+use Rattle.cards.specs.Card.{Card}
+
+abbrev lookup : Table → ℕ → Lookup
+lookup table props = record { settings = record { table = table; zwnj = false; zwj = false; syllables = false }; mask = 1; props = props }
+
+abbrev spelled : Reply → List (List ℕ)
+spelled r = (r .number ∷ []) ∷ r .values ∷ []
+
+abbrev letter : ℕ → Glyph
+letter id = record { id = id; mask = 1; flags = 0; syllable = 0; props = 0; lig = 0; comp = 0; count = 1; ligated = 1 }
+
+-- a mark attached to a component of a ligature, and the ligature
+abbrev mark : ℕ → ℕ → ℕ → Glyph
+mark id lig comp = record { id = id; mask = 1; flags = 0; syllable = 0; props = 8; lig = lig; comp = comp; count = 1; ligated = 1 }
+
+abbrev ligature : ℕ → Glyph
+ligature lig = record { id = 40; mask = 1; flags = 0; syllable = 0; props = 4; lig = lig; comp = 0; count = 3; ligated = 3 }
+
+abbrev lookahead : List Glyph → ℕ → List ℕ → List (List ℕ)
+lookahead text start values = spelled (contextReply (contextTold (ahead (length text)) start (aheadOn (lookup Gsub 0) [] Equal text start 0 values)))
+
+abbrev backtrack : List Glyph → List ℕ → List (List ℕ)
+backtrack row values = spelled (contextReply (contextTold behind (length row) (backOn (lookup Gsub 0) [] Equal row 0 values)))
+
+-- marks 7 and then 8, of these components of ligature 1, after `done`, by a lookup that ignores ligatures
+abbrev joined : Table → List Glyph → ℕ → ℕ → List (List ℕ)
+joined table done first second =
+    let text = mark 7 1 first ∷ mark 8 1 second ∷ [] in
+    spelled (inputReply (inputTold text 0 (inputOn (lookup table 4) [] Equal done text 0 (8 ∷ []))))
+
+abbrev says : ℕ → List ℕ → List (List ℕ)
+says number values = (number ∷ []) ∷ values ∷ []
+
+abbrev three : List Glyph
+three = letter 1 ∷ letter 2 ∷ letter 3 ∷ []
+
+abbrev both : List (List ℕ)
+both = says 0 (2 ∷ 2 ∷ 2 ∷ 0 ∷ 1 ∷ [])
+
+abbrev pub examples : List Card
+examples =
+    -- lookahead: the last place and one more; the start with no values; stopped at p: p + 1; nothing left: the length
+    record { given = lookahead three 1 (2 ∷ 3 ∷ []); wanted = says 0 (3 ∷ []) } ∷
+    record { given = lookahead three 1 []; wanted = says 0 (1 ∷ []) } ∷
+    record { given = lookahead three 1 (2 ∷ 9 ∷ []); wanted = says 4 (3 ∷ []) } ∷
+    record { given = lookahead three 3 (2 ∷ []); wanted = says 4 (3 ∷ []) } ∷
+    -- backtrack: the last place; the row's length with no values; stopped at p: max(p,1) - 1; nothing left: 0
+    record { given = backtrack three (3 ∷ 2 ∷ []); wanted = says 0 (1 ∷ []) } ∷
+    record { given = backtrack three []; wanted = says 0 (3 ∷ []) } ∷
+    record { given = backtrack three (2 ∷ []); wanted = says 4 (1 ∷ []) } ∷
+    record { given = backtrack three (3 ∷ 2 ∷ 1 ∷ 0 ∷ []); wanted = says 4 (0 ∷ []) } ∷
+    -- marks of one component match together, of two only past an ignored base
+    record { given = joined Gsub [] 1 1; wanted = both } ∷
+    record { given = joined Gsub [] 1 2; wanted = says 5 [] } ∷
+    record { given = joined Gsub (ligature 1 ∷ []) 1 2; wanted = both } ∷
+    record { given = joined Gsub (ligature 1 ∷ mark 6 1 1 ∷ []) 1 2; wanted = both } ∷
+    record { given = joined Gsub (ligature 1 ∷ letter 6 ∷ []) 1 2; wanted = says 5 [] } ∷
+    record { given = joined Gpos (ligature 1 ∷ []) 1 2; wanted = says 5 [] } ∷
+    []
