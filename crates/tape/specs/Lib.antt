@@ -1,0 +1,15 @@
+pub mod Digits
+pub mod DigitLaws
+pub mod Frame
+pub mod FrameLaws
+pub mod Line
+pub mod LineLaws
+pub mod Answer
+pub mod AnswerLaws
+pub mod Tape
+pub mod TapeLaws
+pub mod Pieces
+pub mod Bytes
+pub mod Back
+pub mod Forth
+pub mod Put
