@@ -2,9 +2,11 @@
 //! docs/DIFFERENCES.md under its heading; `compare/run` looks whether it is.
 //! Each comes with its smallest inputs, which must go on to differ, and as is
 //! said here.
-use crate::ours::{CSaid, CWalked, Row, Sign};
+use crate::matches::{plain, Case, Question};
+use crate::ours::{Answer, CSaid, CWalked, Row, Sign};
 use original::glyphs::Glyph;
-use original::terms::{Role, Setup, Test};
+use original::matches::with_written_text;
+use original::terms::{Call, Role, Setup, Test, Testing};
 use original::walks::{with_ordinary_row, with_row};
 use std::fmt::Debug;
 
@@ -17,11 +19,32 @@ struct Example {
     input: &'static str,
     original: &'static str,
     ours: &'static str,
-    ask: fn() -> (String, String),
+    ask: Ask,
 }
 
-pub const EXPECTED: [&Difference; 3] =
-    [&SUBSTITUTED_IGNORABLE, &JOINERS_OF_ANY_CATEGORY, &DAMAGED_WALKS];
+enum Ask {
+    /// Answers the original's answer and ours.
+    Glyphs(fn() -> (String, String)),
+    /// A question to a matcher; the original holds the ligature's numbers as
+    /// it would write them.
+    Match(fn() -> (Case, Question)),
+    /// The same where the original's own assertions, if on, end the program.
+    Unchecked(fn() -> (Case, Question)),
+}
+use Ask::{Glyphs, Match, Unchecked};
+
+pub const EXPECTED: [&Difference; 10] = [
+    &SUBSTITUTED_IGNORABLE,
+    &JOINERS_OF_ANY_CATEGORY,
+    &DAMAGED_WALKS,
+    &LOOKAHEAD_START,
+    &TOO_MANY_VALUES,
+    &PAST_END_CURSORS,
+    &TOTALS,
+    &DAMAGED_MATCHES,
+    &MULTIPLIED,
+    &NARROW_NUMBERS,
+];
 
 pub const SUBSTITUTED_IGNORABLE: Difference = Difference {
     heading: "A substituted glyph stays default ignorable",
@@ -30,20 +53,29 @@ pub const SUBSTITUTED_IGNORABLE: Difference = Difference {
             input: "may skip, input matcher, everything 0 but word 2 of the glyph: 01000010",
             original: "CSaid { number: 0, said: 0 }",
             ours: "CSaid { number: 0, said: 2 }",
-            ask: || {
+            ask: Glyphs(|| {
                 let row = [[0, 0, 0x0100_0010, 0]];
                 let original = with_row(&NOTHING, &row, 1, 0, |row| row.may_skip(Role::Input, 0));
                 both(CSaid::of_may(Some(original)), ours(&NOTHING, &row).may_skip(Role::Input, 0))
-            },
+            }),
         },
         Example {
             input: "forward from 0 for id 7, context matcher, ids 5, 9, 7, 9's word 2: 01000010",
             original: "CWalked { number: 4, ran_out: 0, place: 2 }",
             ours: "CWalked { number: 0, ran_out: 0, place: 2 }",
-            ask: || {
+            ask: Glyphs(|| {
                 let row = [[5, 1, 0, 0], [9, 1, 0x0100_0010, 0], [7, 1, 0, 0]];
                 forward(&row, 0, Test::Equal(7))
-            },
+            }),
+        },
+        Example {
+            input: "input, value 7, the same three glyphs",
+            original: "4, end 2, total 0, count 0, []",
+            ours: "0, end 3, total 2, count 2, [0, 2]",
+            ask: Match(|| {
+                let row = [[5, 1, 0, 0x101], [9, 1, 0x0100_0010, 0x101], [7, 1, 0, 0x101]];
+                (over(&[], &row), input(&[7]))
+            }),
         },
     ],
 };
@@ -55,13 +87,13 @@ pub const JOINERS_OF_ANY_CATEGORY: Difference = Difference {
             input: "may skip, input matcher, everything 0 but word 2: 03000000, category not Cf",
             original: "CSaid { number: 0, said: 2 }",
             ours: "CSaid { number: 0, said: 0 }",
-            ask: || joiner(0x0300_0000),
+            ask: Glyphs(|| joiner(0x0300_0000)),
         },
         Example {
             input: "may skip, input matcher, everything 0 but word 2: 05000000, category not Cf",
             original: "CSaid { number: 0, said: 2 }",
             ours: "CSaid { number: 0, said: 0 }",
-            ask: || joiner(0x0500_0000),
+            ask: Glyphs(|| joiner(0x0500_0000)),
         },
     ],
 };
@@ -73,16 +105,188 @@ pub const DAMAGED_WALKS: Difference = Difference {
             input: "forward from 1 in an empty row",
             original: "CWalked { number: 4, ran_out: 1, place: 2 }",
             ours: "CWalked { number: 1, ran_out: 0, place: 0 }",
-            ask: || forward(&[], 1, Test::None),
+            ask: Glyphs(|| forward(&[], 1, Test::None)),
         },
         Example {
             input: "forward from 1,023 over 1,025 glyphs with all words 0",
             original: "CWalked { number: 4, ran_out: 0, place: 1025 }",
             ours: "CWalked { number: 1, ran_out: 0, place: 0 }",
-            ask: || forward(&[[0; 4]; 1025], 1023, Test::None),
+            ask: Glyphs(|| forward(&[[0; 4]; 1025], 1023, Test::None)),
         },
     ],
 };
+
+pub const LOOKAHEAD_START: Difference = Difference {
+    heading: "Lookahead never starts at 0",
+    examples: &[
+        Example {
+            input: "lookahead from 0, no values, one glyph",
+            original: "0, place 0",
+            ours: "6, place 0",
+            ask: Match(|| (over(&[], &[SEVEN]), ahead(0, &[]))),
+        },
+        Example {
+            input: "lookahead from 0, value 7, one glyph 7",
+            original: "4, place 0",
+            ours: "6, place 0",
+            ask: Unchecked(|| (over(&[], &[SEVEN]), ahead(0, &[7]))),
+        },
+    ],
+};
+
+pub const TOO_MANY_VALUES: Difference = Difference {
+    heading: "Too many values have a number of their own",
+    examples: &[
+        Example {
+            input: "input, 64 values, all there",
+            original: "5, end 0, total 0, count 0, []",
+            ours: "3, end 0, total 0, count 0, []",
+            ask: Match(|| (over(&[], &[SEVEN; 65]), input(&[7; 64]))),
+        },
+        Example {
+            input: "lookahead from 1, 65 values, all there",
+            original: "0, place 66",
+            ours: "3, place 0",
+            ask: Match(|| (over(&[], &[SEVEN; 66]), ahead(1, &[7; 65]))),
+        },
+        Example {
+            input: "backtrack, 65 values, all there",
+            original: "0, place 0",
+            ours: "3, place 0",
+            ask: Match(|| (over(&[SEVEN; 65], &[SEVEN]), back(&[7; 65]))),
+        },
+    ],
+};
+
+pub const PAST_END_CURSORS: Difference = Difference {
+    heading: "A cursor past the end is always refused",
+    examples: &[
+        Example {
+            input: "input, no values, one glyph, len 0, cursor 0",
+            original: "0, end 1, total 1, count 1, [0]",
+            ours: "2, end 0, total 0, count 0, []",
+            ask: Match(|| (Case { len: 0, ..over(&[], &[SEVEN]) }, input(&[]))),
+        },
+        Example {
+            input: "lookahead from 1, no values, one glyph, cursor 1",
+            original: "0, place 1",
+            ours: "2, place 0",
+            ask: Match(|| (Case { idx: 1, ..over(&[], &[SEVEN]) }, ahead(1, &[]))),
+        },
+        Example {
+            input: "lookahead from 1, value 7, two glyphs 7, cursor 2",
+            original: "0, place 2",
+            ours: "2, place 0",
+            ask: Unchecked(|| (Case { idx: 2, ..over(&[], &[SEVEN; 2]) }, ahead(1, &[7]))),
+        },
+        Example {
+            input: "backtrack, no values, no glyph, cursor 0",
+            original: "0, place 0",
+            ours: "2, place 0",
+            ask: Match(|| (over(&[], &[]), back(&[]))),
+        },
+    ],
+};
+
+pub const TOTALS: Difference = Difference {
+    heading: "A total may pass 255",
+    examples: &[Example {
+        input: "input, 17 values, 17 ligatures of 15 components and one more glyph",
+        original: "0, end 18, total 0, count 18, [0, 1, 2, 3, 4, 5, 6, 7, 8, 9, 10, 11, 12, 13, 14, 15, 16, 17]",
+        ours: "0, end 18, total 256, count 18, [0, 1, 2, 3, 4, 5, 6, 7, 8, 9, 10, 11, 12, 13, 14, 15, 16, 17]",
+        ask: Unchecked(|| {
+            let row = [&[[7, 1, 4, 0x0F0F]; 17][..], &[SEVEN]].concat();
+            (over(&[], &row), input(&[7; 17]))
+        }),
+    }],
+};
+
+pub const DAMAGED_MATCHES: Difference = Difference {
+    heading: "A damaged match is refused",
+    examples: &[
+        Example {
+            input: "backtrack, no values, d 1 of an empty row",
+            original: "0, place 1",
+            ours: "1, place 0",
+            ask: Match(|| (Case { d: 1, ..over(&[], &[SEVEN]) }, back(&[]))),
+        },
+        Example {
+            input: "lookahead from 2, no values, one glyph",
+            original: "0, place 2",
+            ours: "1, place 0",
+            ask: Match(|| (over(&[], &[SEVEN]), ahead(2, &[]))),
+        },
+        Example {
+            input: "input, no values, len 2 of a row of one glyph",
+            original: "0, end 1, total 1, count 1, [0]",
+            ours: "1, end 0, total 0, count 0, []",
+            ask: Match(|| (Case { len: 2, ..over(&[], &[SEVEN]) }, input(&[]))),
+        },
+        Example {
+            input: "input, no values, 1,025 glyphs with all words 0, cursor 1,024",
+            original: "0, end 1025, total 1, count 1, [1024]",
+            ours: "1, end 0, total 0, count 0, []",
+            ask: Match(|| (Case { idx: 1024, ..over(&[], &[[0; 4]; 1025]) }, input(&[]))),
+        },
+    ],
+};
+
+pub const MULTIPLIED: Difference = Difference {
+    heading: "The count in ligation is a number, not a mark in the props",
+    examples: &[Example {
+        input: "input, value 7, two glyphs 7, the second with component 1, counts 1 and props 0x40",
+        original: "0, end 2, total 1, count 2, [0, 1]",
+        ours: "0, end 2, total 2, count 2, [0, 1]",
+        ask: Match(|| (over(&[], &[SEVEN, [7, 1, 0x40, 0x0001_0101]]), input(&[7]))),
+    }],
+};
+
+pub const NARROW_NUMBERS: Difference = Difference {
+    heading: "Ligature ids, components and counts are bytes",
+    examples: &[
+        Example {
+            input: "input, value 7, two glyphs 7, the first with id 8 and component 1",
+            original: "0, end 2, total 2, count 2, [0, 1]",
+            ours: "5, end 0, total 0, count 0, []",
+            ask: Match(|| (over(&[], &[[7, 1, 0, 0x0801_0101], SEVEN]), input(&[7]))),
+        },
+        Example {
+            input: "input, value 7, two glyphs 7, the first with id 1 and component 16",
+            original: "0, end 2, total 2, count 2, [0, 1]",
+            ours: "5, end 0, total 0, count 0, []",
+            ask: Match(|| (over(&[], &[[7, 1, 0, 0x0110_0101], SEVEN]), input(&[7]))),
+        },
+        Example {
+            input: "input, no values, a ligature of 16 components",
+            original: "0, end 1, total 0, count 1, [0]",
+            ours: "0, end 1, total 16, count 1, [0]",
+            ask: Match(|| (over(&[], &[[7, 1, 4, 0x1010]]), input(&[]))),
+        },
+    ],
+};
+
+/// An ordinary glyph.
+const SEVEN: Glyph = [7, 1, 0, 0x0101];
+
+fn over(done: &[Glyph], coming: &[Glyph]) -> Case {
+    Case::new(plain(false, 0), done.to_vec(), coming.to_vec(), 0)
+}
+
+fn asked(call: Call, values: &[u32]) -> Question {
+    Question { call, testing: Testing::Equal, spare: 0, values: values.to_vec() }
+}
+
+fn input(values: &[u32]) -> Question {
+    asked(Call::Input, values)
+}
+
+fn ahead(start: usize, values: &[u32]) -> Question {
+    asked(Call::Lookahead(start), values)
+}
+
+fn back(values: &[u32]) -> Question {
+    asked(Call::Backtrack, values)
+}
 
 const NOTHING: Setup = Setup {
     gpos: false,
@@ -115,6 +319,35 @@ fn joiner(word2: u32) -> (String, String) {
     both(CSaid::of_may(Some(original)), ours(&NOTHING, &row).may_skip(Role::Input, 0))
 }
 
+impl Ask {
+    /// The original's answer, if it may be asked, and ours.
+    fn ask(&self) -> (Option<String>, String) {
+        let (case, question) = match self {
+            Glyphs(ask) => {
+                let (original, ours) = ask();
+                return (Some(original), ours);
+            }
+            Match(make) | Unchecked(make) => make(),
+        };
+        let ends = matches!(self, Unchecked(_)) && cfg!(debug_assertions);
+        let original = (!ends).then(|| {
+            let matched = with_written_text(case.text(), |held| question.original(held));
+            format!("{:?}", Answer::of(question.call, &Ok(matched)))
+        });
+        (original, format!("{:?}", question.ours(&case)))
+    }
+}
+
+/// Each question to a matcher that is listed here.
+pub fn questions() -> Vec<(Case, Question)> {
+    let examples = EXPECTED.iter().flat_map(|difference| difference.examples);
+    let made = examples.filter_map(|example| match example.ask {
+        Match(make) | Unchecked(make) => Some(make()),
+        Glyphs(_) => None,
+    });
+    made.collect()
+}
+
 /// The headings, one a line.
 pub fn print() -> i32 {
     for difference in EXPECTED {
@@ -130,9 +363,10 @@ pub fn compare() -> u64 {
     for difference in EXPECTED {
         println!("  {}", difference.heading);
         for Example { input, original, ours, ask } in difference.examples {
-            let found = ask();
-            println!("    {input}\n      original {}\n      ours     {}", found.0, found.1);
-            if found != (original.to_string(), ours.to_string()) {
+            let (said, our) = ask.ask();
+            let shown = said.as_deref().unwrap_or("not asked: its own assertions would end it");
+            println!("    {input}\n      original {shown}\n      ours     {our}");
+            if said.is_some_and(|said| said != *original) || our != *ours {
                 println!("DISAGREE with what is expected: original {original}, ours {ours}");
                 wrong += 1;
             }

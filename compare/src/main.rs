@@ -9,6 +9,7 @@ mod allowances;
 mod differences;
 mod digests;
 mod draw;
+mod matches;
 mod ours;
 mod paper;
 mod random;
@@ -22,9 +23,10 @@ use std::process::exit;
 use summary::Summary;
 
 const USAGE: &str = "\
-compare/run [KIND ...] [--steps N] [--seed S]   compare: digests, allowances, walks (default: all)
-compare/run store KIND FILE                     write a stored list of the original's answers: small, walks
-compare/run timing [--rounds N]                 how long the walks take, the original's and ours
+compare/run [KIND ...] [--steps N] [--seed S]   compare: digests, allowances, walks, matches (default: all)
+compare/run store KIND FILE                     write a stored list of the original's answers: small, walks, matches
+compare/run store differences FILE              write our answers to the matchers' expected differences
+compare/run timing [--rounds N]                 how long walks and matches take, the original's and ours
 compare/run differences                         the headings of the expected differences";
 
 const STEPS: u64 = 1_000_000;
@@ -37,6 +39,7 @@ const KINDS: &[Kind] = &[
     ("digests", digests::compare),
     ("allowances", allowances::compare),
     ("walks", walks::compare),
+    ("matches", matches::compare),
 ];
 
 #[no_mangle]

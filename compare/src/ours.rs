@@ -1,7 +1,9 @@
 //! The proved library's calls, as C sees them, and safe covers for them.
-use original::terms::{May, Role, Setup, Test, Verdict, Walked};
+use crate::paper::matchers::Text;
+use original::terms::{Call, Matched, May, Role, Setup, Test, Testing, Verdict, Walked};
 
 #[repr(C)]
+#[derive(Clone, Copy)]
 struct CLookup {
     gpos: bool,
     zwnj: bool,
@@ -19,21 +21,22 @@ struct CSign {
     value: u32,
 }
 
-/// How a call takes a sign. On x86-64, for which the library is made, there is
-/// no register left for it, and it goes by value to the stack. A module that
-/// was compiled for another processor reads it where the caller keeps it.
+/// How a call takes a struct for which x86-64, for which the library is made,
+/// has no register left: a walk's sign, a matcher's lookup. There it goes by
+/// value to the stack. A module that was compiled for another processor reads
+/// it where the caller keeps it.
 #[cfg(target_arch = "x86_64")]
-type HandedSign<'a> = CSign;
+type Handed<'a, T> = T;
 #[cfg(not(target_arch = "x86_64"))]
-type HandedSign<'a> = &'a CSign;
+type Handed<'a, T> = &'a T;
 
 #[cfg(target_arch = "x86_64")]
-fn hand(sign: &CSign) -> HandedSign<'_> {
-    *sign
+fn hand<T: Copy>(what: &T) -> Handed<'_, T> {
+    *what
 }
 #[cfg(not(target_arch = "x86_64"))]
-fn hand(sign: &CSign) -> HandedSign<'_> {
-    sign
+fn hand<T: Copy>(what: &T) -> Handed<'_, T> {
+    what
 }
 
 /// A walk's answer as it is handed over: 0 found, 4 stopped or ran out, 1
@@ -53,6 +56,27 @@ pub struct CWalked {
 pub struct CSaid {
     number: u8,
     said: u8,
+}
+
+/// An input match as it is handed over: 0 matched, 4 with the extent as end, or
+/// a refusal's number. Every field and every slot is compared.
+#[repr(C)]
+#[derive(Clone, Copy, PartialEq, Eq)]
+pub struct CMatched {
+    pub number: u8,
+    pub total: u16,
+    pub end: usize,
+    pub count: usize,
+    pub positions: [u16; 64],
+}
+
+/// A context match as it is handed over: 0 matched at the place, 4 with the
+/// extent, or a refusal's number.
+#[repr(C)]
+#[derive(Clone, Copy, Debug, PartialEq, Eq)]
+pub struct CPlaced {
+    pub number: u8,
+    pub place: usize,
 }
 
 extern "C" {
@@ -92,7 +116,7 @@ extern "C" {
         place: usize,
         lookup: CLookup,
         context: bool,
-        sign: HandedSign,
+        sign: Handed<CSign>,
     ) -> CSaid;
     fn cb_verdict(
         row: *const u32,
@@ -100,7 +124,7 @@ extern "C" {
         place: usize,
         lookup: CLookup,
         context: bool,
-        sign: HandedSign,
+        sign: Handed<CSign>,
         sets: *const u16,
         n: usize,
     ) -> CSaid;
@@ -111,7 +135,7 @@ extern "C" {
         place: usize,
         lookup: CLookup,
         context: bool,
-        sign: HandedSign,
+        sign: Handed<CSign>,
         sets: *const u16,
         n: usize,
     ) -> CWalked;
@@ -121,10 +145,83 @@ extern "C" {
         place: usize,
         lookup: CLookup,
         context: bool,
-        sign: HandedSign,
+        sign: Handed<CSign>,
         sets: *const u16,
         n: usize,
     ) -> CWalked;
+
+    fn cb_match_lookahead(
+        done: *const u32,
+        done_words: usize,
+        d: usize,
+        coming: *const u32,
+        coming_words: usize,
+        len: usize,
+        idx: usize,
+        start: usize,
+        lookup: Handed<CLookup>,
+        sets: *const u16,
+        n: usize,
+        test: u8,
+        values: *const u32,
+        count: usize,
+    ) -> CPlaced;
+    fn cb_match_backtrack(
+        done: *const u32,
+        done_words: usize,
+        d: usize,
+        coming: *const u32,
+        coming_words: usize,
+        len: usize,
+        idx: usize,
+        lookup: Handed<CLookup>,
+        sets: *const u16,
+        n: usize,
+        test: u8,
+        values: *const u32,
+        count: usize,
+    ) -> CPlaced;
+}
+
+// How the input matcher hands its answer over: on x86-64 as C says, which is to
+// a place whose address goes before the arguments. A module that was compiled
+// for another processor keeps it there.
+#[cfg(target_arch = "x86_64")]
+extern "C" {
+    fn cb_match_input(
+        done: *const u32,
+        done_words: usize,
+        d: usize,
+        coming: *const u32,
+        coming_words: usize,
+        len: usize,
+        idx: usize,
+        lookup: Handed<CLookup>,
+        sets: *const u16,
+        n: usize,
+        test: u8,
+        values: *const u32,
+        count: usize,
+    ) -> CMatched;
+}
+#[cfg(not(target_arch = "x86_64"))]
+extern "C" {
+    fn cb_match_input(
+        answer: *mut CMatched,
+        done: *const u32,
+        done_words: usize,
+        d: usize,
+        coming: *const u32,
+        coming_words: usize,
+        len: usize,
+        idx: usize,
+        lookup: Handed<CLookup>,
+        sets: *const u16,
+        n: usize,
+        test: u8,
+        values: *const u32,
+        count: usize,
+    ) -> *mut CMatched;
 }
 
 // Every call below is sound: the library reads and writes only what the
@@ -327,4 +424,126 @@ impl Row<'_> {
         let context = is_context(role);
         unsafe { cb_backward(p, words, place, lookup, context, hand(&sign.in_c()), q, n) }
     }
+}
+
+/// What a matcher hands over.
+#[derive(Clone, Copy, PartialEq, Eq)]
+pub enum Answer {
+    Input(CMatched),
+    Context(CPlaced),
+}
+
+impl std::fmt::Debug for Answer {
+    /// Of the slots, those up to the last that isn't 0, or up to the count.
+    fn fmt(&self, f: &mut std::fmt::Formatter) -> std::fmt::Result {
+        match self {
+            Self::Context(CPlaced { number, place }) => write!(f, "{number}, place {place}"),
+            Self::Input(CMatched { number, total, end, count, positions }) => {
+                let used = positions.iter().rposition(|&slot| slot != 0).map_or(0, |i| i + 1);
+                let slots = &positions[..used.max((*count).min(64))];
+                write!(f, "{number}, end {end}, total {total}, count {count}, {slots:?}")
+            }
+        }
+    }
+}
+
+impl Answer {
+    /// What must be handed over. A total that isn't known is left 0.
+    pub fn of(call: Call, answer: &Result<Matched, u8>) -> Self {
+        let bare = |number, place| match call {
+            Call::Input => Self::Input(CMatched::bare(number, place)),
+            _ => Self::Context(CPlaced { number, place }),
+        };
+        match answer {
+            Ok(Matched::Input { end, total, positions }) => {
+                let mut slots = [0; 64];
+                for (slot, &position) in slots.iter_mut().zip(positions) {
+                    *slot = position as u16;
+                }
+                Self::Input(CMatched {
+                    number: 0,
+                    total: total.unwrap_or(0) as u16,
+                    end: *end,
+                    count: positions.len(),
+                    positions: slots,
+                })
+            }
+            Ok(Matched::Context(place)) => bare(0, *place),
+            Ok(Matched::Lost(extent)) => bare(4, *extent),
+            Ok(Matched::No) => bare(5, 0),
+            Err(number) => bare(*number, 0),
+        }
+    }
+}
+
+impl CMatched {
+    pub fn bare(number: u8, end: usize) -> Self {
+        Self { number, total: 0, end, count: 0, positions: [0; 64] }
+    }
+}
+
+/// A case of test with the number that stands for it; of those that mean no
+/// test, any must do.
+pub fn test_number(testing: Testing, spare: u8) -> u8 {
+    match testing {
+        Testing::Equal => 0,
+        Testing::Any => 1,
+        Testing::Nothing => spare.max(2),
+    }
+}
+
+pub fn matched(text: &Text, call: Call, test: u8, values: &[u32]) -> Answer {
+    match call {
+        Call::Input => {
+            let mut answer = CMatched::bare(u8::MAX, 0);
+            match_input(text, test, values, &mut answer);
+            Answer::Input(answer)
+        }
+        Call::Lookahead(start) => Answer::Context(match_lookahead(text, start, test, values)),
+        Call::Backtrack => Answer::Context(match_backtrack(text, test, values)),
+    }
+}
+
+/// Calls one of the matchers on a text, with what goes before the text's
+/// arguments and between its cursor and the lookup.
+macro_rules! call {
+    ($name:ident, [$($before:expr)?], $text:expr, [$($start:expr)?], $test:expr, $values:expr) => {{
+        let Text { setup, done, d, coming, len, idx } = *$text;
+        unsafe {
+            $name(
+                $($before,)?
+                done.as_ptr(),
+                done.len(),
+                d,
+                coming.as_ptr(),
+                coming.len(),
+                len,
+                idx,
+                $($start,)?
+                hand(&CLookup::of(setup)),
+                setup.sets.as_ptr(),
+                setup.sets.len(),
+                $test,
+                $values.as_ptr(),
+                $values.len(),
+            )
+        }
+    }};
+}
+
+#[cfg(target_arch = "x86_64")]
+pub fn match_input(text: &Text, test: u8, values: &[u32], answer: &mut CMatched) {
+    *answer = call!(cb_match_input, [], text, [], test, values);
+}
+#[cfg(not(target_arch = "x86_64"))]
+pub fn match_input(text: &Text, test: u8, values: &[u32], answer: &mut CMatched) {
+    call!(cb_match_input, [answer], text, [], test, values);
+}
+
+pub fn match_lookahead(text: &Text, start: usize, test: u8, values: &[u32]) -> CPlaced {
+    call!(cb_match_lookahead, [], text, [start], test, values)
+}
+
+pub fn match_backtrack(text: &Text, test: u8, values: &[u32]) -> CPlaced {
+    call!(cb_match_backtrack, [], text, [], test, values)
 }

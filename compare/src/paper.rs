@@ -1,6 +1,8 @@
 //! A plain second implementation of the port's paper (01), written from its
 //! sentences alone. What the original can't be asked is compared with it:
-//! refusals. It also says which sentence decided.
+//! refusals, and words that it can't hold. It also says which sentence decided.
+pub mod matchers;
+
 use original::terms::{May, Role, Setup, Test, Verdict, Walked};
 
 // ---- "A glyph in four words"
@@ -25,6 +27,10 @@ struct Glyph {
     flags: u32,
     syllable: u32,
     props: u32,
+    ligature_id: u32,
+    component: u32,
+    count: u32,
+    count_in_ligation: u32,
 }
 
 fn glyph(row: &[u32], place: usize) -> Glyph {
@@ -35,6 +41,10 @@ fn glyph(row: &[u32], place: usize) -> Glyph {
         flags: words[2] >> 24,
         syllable: words[2] >> 16 & 0xFF,
         props: words[2] & 0xFFFF,
+        ligature_id: words[3] >> 24,
+        component: words[3] >> 16 & 0xFF,
+        count: words[3] >> 8 & 0xFF,
+        count_in_ligation: words[3] & 0xFF,
     }
 }
 

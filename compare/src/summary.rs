@@ -9,6 +9,7 @@ pub struct Summary {
     inputs: Vec<(&'static str, u64)>,
     clauses: Vec<(&'static str, u64)>,
     expected: Vec<(&'static str, u64)>,
+    notes: Vec<String>,
     unexplained: u64,
 }
 
@@ -19,6 +20,7 @@ impl Summary {
             inputs: vec![],
             clauses: clauses.iter().map(|&name| (name, 0)).collect(),
             expected: vec![],
+            notes: vec![],
             unexplained: 0,
         }
     }
@@ -38,6 +40,10 @@ impl Summary {
     pub fn decided_times(&mut self, clause: &'static str, times: u64) {
         let entry = self.clauses.iter_mut().find(|entry| entry.0 == clause);
         entry.unwrap_or_else(|| panic!("the clause {clause} isn't named")).1 += times;
+    }
+
+    pub fn note(&mut self, note: String) {
+        self.notes.push(note);
     }
 
     /// Compares ours with what the paper says where the original has no
@@ -101,6 +107,9 @@ impl Summary {
         }
         for (heading, count) in &self.expected {
             println!("  {count:>9}  differ as docs/DIFFERENCES.md says: {heading}");
+        }
+        for note in &self.notes {
+            println!("  {note}");
         }
         println!("  decided by");
         for (clause, count) in &self.clauses {

@@ -1,14 +1,17 @@
-//! How long both walks take a glyph, the original's and ours, in one program.
+//! How long both walks take a glyph and the three matchers a match, the
+//! original's and ours, in one program.
 //!
 //! A walk goes over 1,024 glyphs, one of which it starts from. A round lets one
 //! side walk some times and then the other, and the rounds change which is
 //! first; the best and the median of the rounds are printed. The same rows are
 //! walked over and over, so they are warm: in a cache, every branch seen before.
 use crate::draw;
-use crate::ours::{self, Sign};
+use crate::matches::Case;
+use crate::ours::{self, CMatched, Sign};
 use crate::random::Random;
 use original::glyphs::Glyph;
-use original::terms::{Role, Setup, Test};
+use original::matches::{with_text, Held};
+use original::terms::{Call, Role, Setup, Test};
 use original::walks::{with_row, Row};
 use std::hint::black_box;
 use std::time::{Duration, Instant};
@@ -139,7 +142,88 @@ pub fn run(rounds: u32, place: &str) -> i32 {
             walks(text.name, rounds, row, &ours::Row { setup: &setup, words: &words });
         });
     }
+    println!("nanoseconds a match, otherwise the same");
+    for between in [0, 1, 4] {
+        matches(rounds, between);
+    }
     0
+}
+
+/// The three matchers over a text in which `between` marks are passed over
+/// before each glyph that is sought; the lookup's flag is 8.
+fn matches(rounds: u32, between: usize) {
+    let one = [vec![MARK; between], vec![[SOUGHT, 1, 0, 0x0101]]].concat();
+    let row: Vec<Glyph> = (0..64).flat_map(|_| one.iter().copied()).collect();
+    let coming = [&[[SOUGHT, 1, 0, 0x0101]][..], &row].concat();
+    let setup = Setup { mask: 1, props: 8, ..Setup::default() };
+    let case = Case::new(setup, row, coming, 0);
+    with_text(case.text(), |held| {
+        for (call, n) in
+            [(Call::Input, 1), (Call::Input, 63), (Call::Lookahead(1), 8), (Call::Backtrack, 8)]
+        {
+            one_matcher(rounds, between, held, &case, call, &vec![SOUGHT; n]);
+        }
+    });
+}
+
+fn one_matcher(
+    rounds: u32,
+    between: usize,
+    held: &mut Held,
+    case: &Case,
+    call: Call,
+    values: &[u32],
+) {
+    let n = values.len();
+    let text = case.lent();
+    let mut answer = CMatched::bare(0, 0);
+    let mut ours = || match call {
+        Call::Input => {
+            ours::match_input(black_box(&text), 0, black_box(values), &mut answer);
+            (black_box(&answer).number, answer.end)
+        }
+        Call::Lookahead(start) => {
+            let placed = ours::match_lookahead(black_box(&text), start, 0, black_box(values));
+            (placed.number, placed.place)
+        }
+        Call::Backtrack => {
+            let placed = ours::match_backtrack(black_box(&text), 0, black_box(values));
+            (placed.number, placed.place)
+        }
+    };
+    let mut original = || match call {
+        Call::Input => {
+            let (matched, end, total) = black_box(held.bare_input(black_box(values)));
+            black_box(total);
+            (matched == Some(true), end)
+        }
+        Call::Lookahead(start) => black_box(held.bare_lookahead(start, black_box(values))),
+        Call::Backtrack => black_box(held.bare_backtrack(black_box(values))),
+    };
+    let (matched, place) = original();
+    assert_eq!((matched, (0, place)), (true, ours()), "both match all {n} values");
+    let name = match call {
+        Call::Input => "input",
+        Call::Lookahead(_) => "lookahead",
+        Call::Backtrack => "backtrack",
+    };
+    let s = if n == 1 { "" } else { "s" };
+    let marks = match between {
+        0 => "no marks".to_string(),
+        1 => "a mark before each".to_string(),
+        _ => format!("{between} marks before each"),
+    };
+    line(
+        &format!("{name}, {n} value{s}, {marks}"),
+        rounds,
+        1,
+        || {
+            original();
+        },
+        || {
+            black_box(ours());
+        },
+    );
 }
 
 /// Forward with the input matcher from the first glyph, backward with the

@@ -1,11 +1,13 @@
 //! Writes the stored lists that proved programs replay. Only the original is
-//! asked, and the same call writes the same file on every machine.
+//! asked, and the same call writes the same file on every machine. `differences`
+//! alone has our answers: to the questions on which the two are known to differ.
 //!
 //! A list is lines of words of 32 bits, and nothing else: each word is eight
 //! capital hexadecimal digits and one byte more, a blank between the words of
 //! a line and 0A at its end. A number of 64 bits is two words, the high one
 //! first. A line is the operation's code, the arguments, and the original's
 //! answer; each kind's file opens with what its lines hold.
+mod matches;
 mod small;
 mod walks;
 
@@ -15,7 +17,12 @@ use std::fmt::Write;
 const MOST_BYTES: usize = 1_000_000;
 
 /// The stored kinds, and what writes each.
-const KINDS: &[(&str, fn(&mut List))] = &[("small", small::write), ("walks", walks::write)];
+const KINDS: &[(&str, fn(&mut List))] = &[
+    ("small", small::write),
+    ("walks", walks::write),
+    ("matches", matches::write),
+    ("differences", matches::write_differences),
+];
 
 /// The words of a line.
 #[derive(Default)]

@@ -3,5 +3,6 @@
 pub mod allowances;
 pub mod digests;
 pub mod glyphs;
+pub mod matches;
 pub mod terms;
 pub mod walks;

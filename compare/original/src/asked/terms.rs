@@ -53,3 +53,44 @@ pub enum Walked {
     /// Came to the end; the extent.
     RanOut(usize),
 }
+
+/// The case of test of a matcher, which is handed a value for each glyph.
+#[derive(Clone, Copy, Debug, PartialEq, Eq)]
+pub enum Testing {
+    Equal,
+    Any,
+    Nothing,
+}
+
+impl Testing {
+    pub fn of(self, value: u32) -> Test {
+        match self {
+            Self::Equal => Test::Equal(value),
+            Self::Any => Test::Any,
+            Self::Nothing => Test::None,
+        }
+    }
+}
+
+pub const TESTINGS: [Testing; 3] = [Testing::Equal, Testing::Any, Testing::Nothing];
+
+/// Which matcher is asked; lookahead with its start.
+#[derive(Clone, Copy, Debug, PartialEq, Eq)]
+pub enum Call {
+    Input,
+    Lookahead(usize),
+    Backtrack,
+}
+
+#[derive(Clone, Debug, PartialEq, Eq)]
+pub enum Matched {
+    /// An input match. There is no total where the original can't hold the
+    /// counts that it is made of.
+    Input { end: usize, total: Option<u32>, positions: Vec<usize> },
+    /// A lookahead or a backtrack match.
+    Context(usize),
+    /// Stopped or ran out; the extent.
+    Lost(usize),
+    /// No, and nothing more.
+    No,
+}
