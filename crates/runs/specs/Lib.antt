@@ -1,0 +1,9 @@
+pub mod Repair
+pub mod Run
+pub mod Rises
+pub mod Kept
+pub mod Spending
+pub mod Tries
+pub mod Promises
+pub mod Chain
+pub mod ChainLaws

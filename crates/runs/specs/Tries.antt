@@ -1,0 +1,209 @@
+-- What was left and what was tried add up to the allowance, and a run is Short exactly when a due record met allowance 0.
+-- Both go from a record to the records of a level, and by the depth to the levels below.
+use mathlib.Core.Path.{_≡_, refl, sym, ap, _∙_}
+use mathlib.Core.Bool.{Bool, true, false, cond, not}
+use mathlib.Core.List.{List, [], _∷_}
+use mathlib.Core.Logic.{_↔_, _⊎_, ⊎-elim, inl, inr}
+use Prim.Native.Nat.{ℕ, zero, suc, _<_, _≤_, _+_, _-_}
+use native.Mathlib.Omega.{arith}
+use lib.ListN.{length}
+use Rattle.text.specs.Text.{Text, movedTo, replaced, isFull}
+use Rattle.book.specs.Book.{Record, Lookup, Kind1, Kind2, Kind3, Found, Is, None, lookupAt}
+use Rattle.runs.specs.declared.Ending.{Ending}
+use Rattle.runs.specs.declared.Ending.the-variants.{Finished, Short, Deep, Full}
+use Rattle.runs.specs.Run.{Run, Stage, Match, Matched, Unmatched, isOver, size, changed, endingAs, when, isAt, multiplied, opened, chainedBy, appliedBy, isDue, arrived, spending, triedBy, dueBy, stepBy, recordsBy, closed, chainRun, lookupRun}
+use Rattle.runs.specs.Spending.{Out, Stays, left, ends, leftOf, endOf, due-out, records-stays, closed-stays, chain-core}
+
+-- ---- left and tries
+
+abbrev sumOf : Run → ℕ
+sumOf x = x .left + x .tries
+
+abbrev pub Adds : (Run → Run) → Type 0
+Adds f = (x : Run) → sumOf (f x) ≡ sumOf x
+
+abbrev pub AddsUp : (Stage → Stage) → Type 0
+AddsUp f = (v : Stage) → sumOf (f v .run) ≡ sumOf (v .run)
+
+when-adds : (c : Run → Bool) (f : Run → Run) → Adds f → Adds (λ x. when (c x) f x)
+when-adds c f F x = by (c x)
+  where
+    by : (b : Bool) → sumOf (when b f x) ≡ sumOf x
+    by true = F x
+    by false = refl
+
+multiplied-adds : (ids : List ℕ) → Adds (multiplied ids)
+multiplied-adds ids x = by (isFull (size x) (length ids))
+  where
+    by : (b : Bool) → sumOf (cond b (endingAs Full x) (changed (replaced ids) x)) ≡ sumOf x
+    by true = refl
+    by false = refl
+
+chained-adds : (g : Stage → Stage) → AddsUp g → (m : Match) → Adds (chainedBy g m)
+chained-adds g G (Matched ps e) x = G (opened ps e x)
+chained-adds g G Unmatched x = refl
+
+applied-adds : (match : Lookup → Text → Match) (chain : List Record → Stage → Stage) → ((rs : List Record) → AddsUp (chain rs)) → (found : Found) → Adds (appliedBy match chain found)
+applied-adds match chain C (Is (Kind1 props from to)) x = when-adds (isAt from) (changed (replaced (to ∷ []))) (λ y. refl) x
+applied-adds match chain C (Is (Kind2 props from ids)) x = when-adds (isAt from) (multiplied ids) (multiplied-adds ids) x
+applied-adds match chain C (Is (Kind3 props first back input ahead rs)) x =
+    chained-adds (chain rs) (C rs) (match (Kind3 props first back input ahead rs) (x .text)) x
+applied-adds match chain C None x = refl
+
+module _ (f : ℕ → Run → Run) (F : (k : ℕ) → Adds (f k)) where
+  tried-adds : (d l : ℕ) (r : Record) (v : Stage) → v .run .left ≡ l → sumOf (triedBy f d l r v .run) ≡ sumOf (v .run)
+  unfolding triedBy
+  tried-adds d zero r v e = refl
+  tried-adds zero (suc l) r v e = refl
+  tried-adds (suc d) (suc l) r v e = let q = F (r .lookup) (spending l (v .run)) in omega arith
+
+  pub step-adds : (d : ℕ) (r : Record) → AddsUp (stepBy f d r)
+  step-adds d r v = by (isDue r v)
+    where
+      by : (b : Bool) → sumOf (when b (dueBy f d r) v .run) ≡ sumOf (v .run)
+      by true = tried-adds d (v .run .left) r (arrived r v) refl
+      by false = refl
+
+  records-adds : (d : ℕ) (rs : List Record) → AddsUp (recordsBy f d rs)
+  unfolding recordsBy
+  records-adds d [] v = refl
+  records-adds d (r ∷ rs) v = records-adds d rs (stepBy f d r v) ∙ step-adds d r v
+
+closed-adds : AddsUp closed
+unfolding closed
+closed-adds v = by (not (isOver (v .run .ending)))
+  where
+    by : (b : Bool) → sumOf (when b (changed (movedTo (v .level .end))) (v .run)) ≡ sumOf (v .run)
+    by true = refl
+    by false = refl
+
+-- what is left and what was tried: always the same sum
+pub chain-adds : (match : Lookup → Text → Match) (book : List Lookup) (d : ℕ) (rs : List Record) → AddsUp (chainRun match book d rs)
+unfolding chainRun
+chain-adds match book zero rs v = closed-adds _ ∙ records-adds (λ k x. x) (λ k x. refl) zero rs v
+chain-adds match book (suc d) rs v =
+    closed-adds _ ∙ records-adds (lookupRun match book d) (λ k. applied-adds match (chainRun match book d) (chain-adds match book d) (lookupAt k book)) (suc d) rs v
+
+pub lookup-adds : (match : Lookup → Text → Match) (book : List Lookup) (d k : ℕ) → Adds (lookupRun match book d k)
+lookup-adds match book d k = applied-adds match (chainRun match book d) (chain-adds match book d) (lookupAt k book)
+
+-- ---- a due record that meets allowance 0
+
+-- at a due record, by the depth and the allowance that are left; `met k x` says it of lookup k, tried on x
+abbrev pub MetTry : (ℕ → Run → Type 0) → ℕ → ℕ → Record → Stage → Type 0
+MetTry met depth zero r v = Unit {0}
+MetTry met zero (suc left) r v = ⊥
+MetTry met (suc depth) (suc left) r v = met (r .lookup) (spending left (v .run))
+
+-- at one of the records, as the ones before it left the level
+unfoldable pub MetRecords : (ℕ → Run → Type 0) → (ℕ → Run → Run) → ℕ → List Record → Stage → Type 0
+MetRecords met lookup depth [] v = ⊥
+MetRecords met lookup depth (r ∷ rs) v =
+    ((isDue r v ≡ true) × MetTry met depth (v .run .left) r (arrived r v)) ⊎ MetRecords met lookup depth rs (stepBy lookup depth r v)
+
+abbrev pub MetMatch : (Stage → Type 0) → Match → Run → Type 0
+MetMatch met (Matched positions end) x = met (opened positions end x)
+MetMatch met Unmatched x = ⊥
+
+-- only a chain has records
+abbrev pub MetLookup : (Lookup → Text → Match) → (List Record → Stage → Type 0) → Found → Run → Type 0
+MetLookup match met (Is (Kind1 props from to)) x = ⊥
+MetLookup match met (Is (Kind2 props from ids)) x = ⊥
+MetLookup match met (Is (Kind3 props first back input ahead records)) x =
+    MetMatch (met records) (match (Kind3 props first back input ahead records) (x .text)) x
+MetLookup match met None x = ⊥
+
+-- a due record of the level, or of a level below it, met allowance 0
+unfoldable pub Met : (Lookup → Text → Match) → List Lookup → ℕ → List Record → Stage → Type 0
+Met match book zero rs v = MetRecords (λ k x. ⊥) (λ k x. x) zero rs v
+Met match book (suc d) rs v = MetRecords (λ k. MetLookup match (Met match book d) (lookupAt k book)) (lookupRun match book d) (suc d) rs v
+
+-- what ends Short was Short before or met allowance 0; and what met it is Short with nothing left
+pub record Told {X : Type 0} (leftIn : X → ℕ) (endIn : X → Ending) (f : X → X) (met : X → Type 0) : Type 0 where
+  pub only : (x : X) → endIn (f x) ≡ Short → (endIn x ≡ Short) ⊎ met x
+  pub so : (x : X) → met x → Out leftIn endIn (f x)
+
+deep-short : Deep ≡ Short → ⊥
+deep-short e = let z : _≡_ {A = ℕ} 0 1 = cc in omega arith
+
+full-short : Full ≡ Short → ⊥
+full-short e = let z : _≡_ {A = ℕ} 0 1 = cc in omega arith
+
+finished-short : Finished ≡ Short → ⊥
+finished-short e = let z : _≡_ {A = ℕ} 0 1 = cc in omega arith
+
+multiplied-told : (ids : List ℕ) (x : Run) → ends (multiplied ids x) ≡ Short → ends x ≡ Short
+multiplied-told ids x = by (isFull (size x) (length ids))
+  where
+    by : (b : Bool) → ends (cond b (endingAs Full x) (changed (replaced ids) x)) ≡ Short → ends x ≡ Short
+    by true h = absurd (full-short h)
+    by false h = h
+
+when-told : (c : Run → Bool) (f : Run → Run) → ((x : Run) → ends (f x) ≡ Short → ends x ≡ Short) → (x : Run) → ends (when (c x) f x) ≡ Short → ends x ≡ Short
+when-told c f F x = by (c x)
+  where
+    by : (b : Bool) → ends (when b f x) ≡ Short → ends x ≡ Short
+    by true h = F x h
+    by false h = h
+
+chained-told : (g : Stage → Stage) (met : Stage → Type 0) → Told leftOf endOf g met → (m : Match) → Told left ends (chainedBy g m) (MetMatch met m)
+chained-told g met G (Matched ps e) = record { only = λ x. G .only (opened ps e x); so = λ x. G .so (opened ps e x) }
+chained-told g met G Unmatched = record { only = λ x h. inl h; so = λ x m. absurd m }
+
+module _ (match : Lookup → Text → Match) (chain : List Record → Stage → Stage) (met : List Record → Stage → Type 0) (C : (rs : List Record) → Told leftOf endOf (chain rs) (met rs)) where
+  applied-told : (found : Found) → Told left ends (appliedBy match chain found) (MetLookup match met found)
+  applied-told (Is (Kind1 props from to)) = record { only = λ x h. inl (when-told (isAt from) (changed (replaced (to ∷ []))) (λ y k. k) x h); so = λ x m. absurd m }
+  applied-told (Is (Kind2 props from ids)) = record { only = λ x h. inl (when-told (isAt from) (multiplied ids) (multiplied-told ids) x h); so = λ x m. absurd m }
+  applied-told (Is (Kind3 props first back input ahead rs)) = record {
+    only = λ x. chained-told (chain rs) (met rs) (C rs) (match (Kind3 props first back input ahead rs) (x .text)) .only x;
+    so = λ x. chained-told (chain rs) (met rs) (C rs) (match (Kind3 props first back input ahead rs) (x .text)) .so x;
+  }
+  applied-told None = record { only = λ x h. inl h; so = λ x m. absurd m }
+
+module _ (f : ℕ → Run → Run) (met : ℕ → Run → Type 0) (F : (k : ℕ) → Told left ends (f k) (met k)) where
+  tried-only : (d l : ℕ) (r : Record) (v : Stage) → endOf (triedBy f d l r v) ≡ Short → (endOf v ≡ Short) ⊎ MetTry met d l r v
+  unfolding triedBy
+  tried-only d zero r v h = inr tt
+  tried-only zero (suc l) r v h = absurd (deep-short h)
+  tried-only (suc d) (suc l) r v h = F (r .lookup) .only (spending l (v .run)) h
+
+  tried-so : (d l : ℕ) (r : Record) (v : Stage) → leftOf v ≡ l → MetTry met d l r v → Out leftOf endOf (triedBy f d l r v)
+  unfolding triedBy
+  tried-so d zero r v e m = (refl, e)
+  tried-so zero (suc l) r v e m = absurd m
+  tried-so (suc d) (suc l) r v e m = F (r .lookup) .so (spending l (v .run)) m
+
+  step-only : (d : ℕ) (r : Record) (v : Stage) → endOf (stepBy f d r v) ≡ Short → (endOf v ≡ Short) ⊎ ((isDue r v ≡ true) × MetTry met d (leftOf v) r (arrived r v))
+  step-only d r v = by (isDue r v) refl
+    where
+      by : (b : Bool) → isDue r v ≡ b → endOf (when b (dueBy f d r) v) ≡ Short → (endOf v ≡ Short) ⊎ ((isDue r v ≡ true) × MetTry met d (leftOf v) r (arrived r v))
+      by true e h = ⊎-elim (λ s. inl s) (λ m. inr (e, m)) (tried-only d (leftOf v) r (arrived r v) h)
+      by false e h = inl h
+
+  step-so : (d : ℕ) (r : Record) (v : Stage) → isDue r v ≡ true → MetTry met d (leftOf v) r (arrived r v) → Out leftOf endOf (stepBy f d r v)
+  step-so d r v e m = rw e (tried-so d (leftOf v) r (arrived r v) refl m)
+
+  records-told : (d : ℕ) (rs : List Record) → Told leftOf endOf (recordsBy f d rs) (MetRecords met f d rs)
+  unfolding recordsBy MetRecords
+  records-told d [] = record { only = λ v h. inl h; so = λ v m. absurd m }
+  records-told d (r ∷ rs) = record {
+    only = λ v h.
+        ⊎-elim (λ s. ⊎-elim (λ o. inl o) (λ m. inr (inl m)) (step-only d r v s)) (λ m. inr (inr m)) (records-told d rs .only (stepBy f d r v) h);
+    so = λ v m. ⊎-elim (λ a. records-stays f d rs (stepBy f d r v) (step-so d r v (a .0) (a .1))) (records-told d rs .so (stepBy f d r v)) m;
+  }
+
+closing-told : (g : Stage → Stage) (met : Stage → Type 0) → Told leftOf endOf g met → Told leftOf endOf (λ v. closed (g v)) met
+unfolding closed
+closing-told g met G = record { only = λ v h. G .only v (by v (not (isOver (g v .run .ending))) h); so = λ v m. closed-stays (g v) (G .so v m) }
+  where
+    by : (v : Stage) (b : Bool) → ends (when b (changed (movedTo (g v .level .end))) (g v .run)) ≡ Short → endOf (g v) ≡ Short
+    by v true h = h
+    by v false h = h
+
+pub chain-told : (match : Lookup → Text → Match) (book : List Lookup) (d : ℕ) (rs : List Record) → Told leftOf endOf (chainRun match book d rs) (Met match book d rs)
+unfolding chainRun Met
+chain-told match book zero rs =
+    closing-told _ _ (records-told (λ k x. x) (λ k x. ⊥) (λ k. record { only = λ x h. inl h; so = λ x m. absurd m }) zero rs)
+chain-told match book (suc d) rs =
+    closing-told _ _ (records-told (lookupRun match book d) (λ k. MetLookup match (Met match book d) (lookupAt k book))
+    (λ k. applied-told match (chainRun match book d) (Met match book d) (chain-told match book d) (lookupAt k book)) (suc d) rs)
