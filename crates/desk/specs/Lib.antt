@@ -2,3 +2,4 @@ pub mod Digests
 pub mod Allowances
 pub mod Walks
 pub mod Matches
+pub mod Runs

@@ -2,4 +2,5 @@
 pub mod allowances;
 pub mod digests;
 pub mod matches;
+pub mod nestings;
 pub mod walks;

@@ -66,6 +66,7 @@ goes depth r v = by (isDue r v) refl
     on d zero e u h = let z : _≡_ {A = ℕ} 0 1 = cc in absurd (omega arith)
     on zero (suc l) e u h = let z : _≡_ {A = ℕ} 0 1 = cc in absurd (omega arith)
     on (suc d) (suc l) e u h = record { deep = omega arith; due = u; level = refl; text = refl; sum = omega arith }
+
     by : (b : Bool) → isDue r v ≡ b → cond b (judged depth (v .run .left) (arrived r v)) (record { go = false; stage = v }) .go ≡ true
         → Goes depth r v (cond b (judged depth (v .run .left) (arrived r v)) (record { go = false; stage = v }))
     by true e h = on depth (v .run .left) refl (due-shows r v e) h

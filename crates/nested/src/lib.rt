@@ -245,7 +245,11 @@ fn act(done: &mut [u32], coming: &[u32], book: &[u16], e: Entry, s: State) -> St
 {
     match e {
         Entry::One { props: _, from, to } => act_one(done, coming, s, from, to),
-        Entry::Many { props: _, from, ids } => {
+        Entry::Many {
+            props: _,
+            from,
+            ids,
+        } => {
             let a = ids.from;
             let z = ids.to;
             act_many(done, coming, s, from, &book[a..z])
@@ -445,10 +449,29 @@ fn take_aim(
             let j = input.to;
             let k = lookahead.from;
             let l = lookahead.to;
-            match_chain(done, coming, sets, p, q, first, &book[a..b], &book[i..j], &book[k..l], records)
+            match_chain(
+                done,
+                coming,
+                sets,
+                p,
+                q,
+                first,
+                &book[a..b],
+                &book[i..j],
+                &book[k..l],
+                records,
+            )
         }
-        Entry::One { props: _, from: _, to: _ } => no_aim(),
-        Entry::Many { props: _, from: _, ids: _ } => no_aim(),
+        Entry::One {
+            props: _,
+            from: _,
+            to: _,
+        } => no_aim(),
+        Entry::Many {
+            props: _,
+            from: _,
+            ids: _,
+        } => no_aim(),
         Entry::Missing => no_aim(),
     }
 }
@@ -489,7 +512,18 @@ fn chain(
         if ready.go {
             let here = st.place;
             let old = text::size(here);
-            st = lookup(done, coming, book, starts, count, sets, k, st, given, depth - 1);
+            st = lookup(
+                done,
+                coming,
+                book,
+                starts,
+                count,
+                sets,
+                k,
+                st,
+                given,
+                depth - 1,
+            );
             let there = st.place;
             let new = text::size(there);
             lv = levels::repair(lv, seq, old, new);
@@ -529,7 +563,19 @@ fn lookup(
         let a = part.from;
         let z = part.to;
         let lv = aim.level;
-        let r = chain(done, coming, book, starts, count, sets, &book[a..z], lv, s, given, depth);
+        let r = chain(
+            done,
+            coming,
+            book,
+            starts,
+            count,
+            sets,
+            &book[a..z],
+            lv,
+            s,
+            given,
+            depth,
+        );
         return r.state;
     }
     act(done, coming, book, e, s)
@@ -600,7 +646,20 @@ pub fn run(
     }
     let starts = index.starts;
     let count = index.count;
-    apply(done, coming, place, sets, book, &starts, count, records, matched, given, allowance, depth)
+    apply(
+        done,
+        coming,
+        place,
+        sets,
+        book,
+        &starts,
+        count,
+        records,
+        matched,
+        given,
+        allowance,
+        depth,
+    )
 }
 
 // Refusals 1, 2 and 12.
@@ -679,7 +738,20 @@ fn apply(
         return refuse(Refusal::Match);
     }
     let m = levels::open(&places, matched.count, end, idx, d);
-    go(done, coming, place, sets, book, starts, count, records, m, given, allowance, depth)
+    go(
+        done,
+        coming,
+        place,
+        sets,
+        book,
+        starts,
+        count,
+        records,
+        m,
+        given,
+        allowance,
+        depth,
+    )
 }
 
 // Whether places can be a level's: some and at most 64, from the cursor on, rising, below an end that is in the row.
@@ -754,7 +826,19 @@ fn go(
         spent: 0,
         ending: Ending::Finished,
     };
-    let r = chain(done, coming, book, starts, count, sets, records, m, s, given, depth);
+    let r = chain(
+        done,
+        coming,
+        book,
+        starts,
+        count,
+        sets,
+        records,
+        m,
+        s,
+        given,
+        depth,
+    );
     let last = r.state;
     let level = r.level;
     let here = last.place;

@@ -149,10 +149,16 @@ chain-loop-again t c = let a = c .before .before .before .before .before .before
     let lt = c .before .before .before .before .before .before .before .before .before .before .before .before .loop-test .taken in
     let r = recordAt (a .recs .now) (l .i) in
     let turn : (done₂ coming₂ : List ℕ) (s₂ : State) (lv₂ : Slots) → length done₂ ≡ length (a .done .now) → length coming₂ ≡ length (a .coming .now)
-        → stageOf done₂ coming₂ s₂ lv₂ ≡ stepBy (nestedAt (a .given) (a .sets .now) (a .book .now) (a .depth)) (a .depth) r (stageOf (l .done) (l .coming) (l .st) (l .lv)) → Neat lv₂ → Fits done₂ coming₂ (s₂ .place)
-        → chain-Inv-loop (a .done .now) (a .coming .now) (a .book .now) (a .starts .now) (a .count) (a .sets .now) (a .recs .now) (a .given) (a .depth) (a .s) (a .m) 0 done₂ coming₂ s₂ lv₂ (l .i + 2) =
-    λ done₂ coming₂ s₂ lv₂ u v e n f. (u, v, l .inv .2, still-able (a .given) (a .sets .now) (a .book .now) (l .inv .2) (a .depth) r (l .done) (l .coming) (l .st) (l .lv) done₂ coming₂ s₂ lv₂ (l .inv .3) e n f,
-      records-turn (a .given) (a .sets .now) (a .book .now) (a .depth) (a .recs .now) (l .i) (stageOf (l .done) (l .coming) (l .st) (l .lv)) (stageOf done₂ coming₂ s₂ lv₂) lt e ∙ l .inv .4, omega arith) in
+    → stageOf done₂ coming₂ s₂ lv₂ ≡ stepBy (nestedAt (a .given) (a .sets .now) (a .book .now) (a .depth)) (a .depth) r (stageOf (l .done) (l .coming) (l .st) (l .lv)) → Neat lv₂ → Fits done₂ coming₂ (s₂ .place)
+    → chain-Inv-loop (a .done .now) (a .coming .now) (a .book .now) (a .starts .now) (a .count) (a .sets .now) (a .recs .now) (a .given) (a .depth) (a .s) (a .m) 0 done₂ coming₂ s₂ lv₂ (l .i + 2) =
+    λ done₂ coming₂ s₂ lv₂ u v e n f. (
+      u,
+      v,
+      l .inv .2,
+      still-able (a .given) (a .sets .now) (a .book .now) (l .inv .2) (a .depth) r (l .done) (l .coming) (l .st) (l .lv) done₂ coming₂ s₂ lv₂ (l .inv .3) e n f,
+      records-turn (a .given) (a .sets .now) (a .book .now) (a .depth) (a .recs .now) (l .i) (stageOf (l .done) (l .coming) (l .st) (l .lv)) (stageOf done₂ coming₂ s₂ lv₂) lt e ∙ l .inv .4,
+      omega arith,
+    ) in
     ⊎-elim (λ w.
     let lev = w .12 .ensures ∙ ap₂ (λ (x y : ℕ). shown (repaired (getD (a .recs .now) (l .i) 0) x y (levelOf (p .result .level)))) (w .2 .ensures) (w .11 .ensures) in
     rw (w .13, w .14, w .15, w .16) (turn (w .5 .last .0) (w .5 .last .1 .0) (w .5 .result) (w .12 .result) (w .5 .kept .0 ∙ p .kept .0 ∙ l .inv .0) (w .5 .kept .1 .0 ∙ p .kept .1 .0 ∙ l .inv .1)

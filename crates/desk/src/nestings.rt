@@ -1,0 +1,155 @@
+// A run of records over a text, and whether a book reads.
+use crate::matches::Matched;
+use matching::InputAnswer;
+use matching::InputMatch;
+use nested::Refusal;
+use nested::RunAnswer;
+use nested::RunEnding;
+use runs::Ending;
+use runs::Given;
+ghost use mathlib.Core.Path.{_≡_};
+ghost use Rattle.book.specs.Book.{readBook, isRead};
+ghost use Rattle.nested.specs.declared.RunAnswer.{RunAnswer as Answer};
+ghost use Rattle.nested.specs.Calls.{checkedAll, runSays, Said, endingNumber, refusalNumber};
+ghost use Rattle.desk.specs.Runs.{answerFrom, matchFrom, givenFrom, numberOf, ranOf};
+
+// The three switches and the lookup mask. A run is GSUB.
+#[repr(C)]
+pub struct Switches {
+    pub zwnj: bool,
+    pub zwj: bool,
+    pub syllables: bool,
+    pub mask: u32,
+}
+
+// 0 Finished, 8 Short, 9 Deep or 10 Full with what the run answers; or a refusal's number, and 0 everywhere else.
+#[repr(C)]
+pub struct Ran {
+    pub number: u8,
+    pub spent: u32,
+    pub d: usize,
+    pub idx: usize,
+    pub count: usize,
+    pub positions: [u16; 64],
+}
+
+#[no_mangle]
+pub extern "C" fn cb_book_reads(book: &[u16]) -> bool
+    ensures { λ r. ⌜ r ≡ isRead (readBook (now (book .entry))) ⌝ }
+{
+    book::reads(book)
+}
+
+#[no_mangle]
+pub extern "C" fn cb_run(
+    done: &mut [u32],
+    coming: &mut [u32],
+    d: usize,
+    idx: usize,
+    sets: &[u16],
+    book: &[u16],
+    records: &[u16],
+    matched: Matched,
+    switches: Switches,
+    allowance: u32,
+    depth: usize,
+) -> Ran
+    ensures { λ r. ⌜ ((a : Answer) × (Said (checkedAll (now (done .entry)) (now (coming .entry)) (record { d = d; idx = idx }) (now (sets .entry)) (now (book .entry)) (now (records .entry)) (matchFrom matched) allowance depth)
+        (runSays (now (done .entry)) (now (coming .entry)) (record { d = d; idx = idx }) (now (sets .entry)) (now (book .entry)) (now (records .entry)) (matchFrom matched) (givenFrom switches) allowance depth)
+        (now (done .entry)) (now (coming .entry)) (now (done .exit)) (now (coming .exit)) a × (r ≡ ranOf a))) ⌝ }
+{
+    told(nested::run(
+        done,
+        coming,
+        d,
+        idx,
+        sets,
+        book,
+        records,
+        match_from(matched),
+        given(switches),
+        allowance,
+        depth,
+    ))
+}
+
+fn match_from(m: Matched) -> InputMatch
+    ensures { λ r. ⌜ r ≡ matchFrom m ⌝ }
+{
+    let positions = m.positions;
+    let answer = success(m.number, m.end, m.total);
+    InputMatch {
+        answer,
+        count: m.count,
+        positions,
+    }
+}
+
+fn success(number: u8, end: usize, total: u16) -> InputAnswer
+    ensures { λ r. ⌜ r ≡ answerFrom number end total ⌝ }
+{
+    if number == 0 {
+        InputAnswer::Matched { end, total }
+    } else {
+        InputAnswer::Ligature
+    }
+}
+
+fn given(s: Switches) -> Given
+    ensures { λ r. ⌜ r ≡ givenFrom s ⌝ }
+{
+    Given {
+        zwnj: s.zwnj,
+        zwj: s.zwj,
+        syllables: s.syllables,
+        mask: s.mask,
+    }
+}
+
+fn ended(e: Ending) -> u8
+    ensures { λ r. ⌜ r ≡ endingNumber e ⌝ }
+{
+    match e {
+        Ending::Finished => 0,
+        Ending::Short => 8,
+        Ending::Deep => 9,
+        Ending::Full => 10,
+    }
+}
+
+fn refused(why: Refusal) -> u8
+    ensures { λ r. ⌜ r ≡ refusalNumber why ⌝ }
+{
+    match why {
+        Refusal::Shape => 1,
+        Refusal::Cursor => 2,
+        Refusal::Limits => 12,
+        Refusal::Book => 11,
+        Refusal::Match => 7,
+    }
+}
+
+fn number_of(e: RunEnding) -> u8
+    ensures { λ r. ⌜ r ≡ numberOf e ⌝ }
+{
+    match e {
+        RunEnding::Ended(ending) => ended(ending),
+        RunEnding::Refused(why) => refused(why),
+    }
+}
+
+fn told(a: RunAnswer) -> Ran
+    ensures { λ r. ⌜ r ≡ ranOf a ⌝ }
+{
+    let ending = a.ending;
+    let positions = a.positions;
+    let number = number_of(ending);
+    Ran {
+        number,
+        spent: a.spent,
+        d: a.d,
+        idx: a.idx,
+        count: a.count,
+        positions,
+    }
+}
