@@ -125,11 +125,11 @@ fn lost_slots(at: &[u16; 64], i: usize, n: usize, count: usize) -> [u16; 64]
     out
 }
 
-fn lost_slot(at: &[u16; 64], i: usize, n: usize, count: usize, j: usize) -> u16
-    requires { ⌜ Placed (now at) count × (i < count) × (n ≤ count - (i + 1)) × (j < 64) ⌝ }
-    ensures { λ r. ⌜ r ≡ getD (lost i n (take count (now (at .entry)))) j 0 ⌝ }
+fn lost_slot(at: &[u16; 64], own: usize, n: usize, count: usize, j: usize) -> u16
+    requires { ⌜ Placed (now at) count × (own < count) × (n ≤ count - (own + 1)) × (j < 64) ⌝ }
+    ensures { λ r. ⌜ r ≡ getD (lost own n (take count (now (at .entry)))) j 0 ⌝ }
 {
-    if j <= i {
+    if j <= own {
         return at[j];
     }
     if j + n < count {

@@ -36,9 +36,10 @@ use Rattle.nested.specs.declared.RunEnding.{RunEnding}
 use Rattle.nested.specs.declared.RunAnswer.{RunAnswer}
 use Rattle.nested.specs.declared.Checked.{Checked}
 use Rattle.nested.specs.declared.Closed.{Closed}
-use Rattle.nested.specs.State.{mostAllowance, mostDepth, lookupsOf, lookupsBy, Indexed, Ran, Chained}
-use Rattle.nested.specs.Shifts.{endOf}
-use Rattle.nested.specs.Calls.{badRecords, checkedFirst, checkedPlaces, checkedMatch, checkedBook, checkedAll, then, risesTo, goodPlaces, refusedBy, Whole, Said}
+use Rattle.steps.specs.State.{mostAllowance, Ran}
+use Rattle.nested.specs.Levels.{lookupsOf, lookupsBy, Indexed, Chained}
+use Rattle.steps.specs.Shifts.{endOf}
+use Rattle.nested.specs.Calls.{mostDepth, badRecords, checkedFirst, checkedPlaces, checkedMatch, checkedBook, checkedAll, then, risesTo, goodPlaces, refusedBy, Whole, Said}
 
 -- ---- places that rise, one a turn
 

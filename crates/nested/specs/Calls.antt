@@ -27,10 +27,15 @@ use Rattle.nested.specs.declared.Refusal.the-variants.{Shape, Cursor, Li
 use Rattle.nested.specs.declared.RunEnding.{RunEnding}
 use Rattle.nested.specs.declared.RunAnswer.{RunAnswer}
 use Rattle.nested.specs.declared.Checked.{Checked}
-use Rattle.nested.specs.State.{mostAllowance, mostDepth, lookupsOf}
-use Rattle.nested.specs.Shifts.{endOf}
+use Rattle.steps.specs.State.{mostAllowance}
+use Rattle.nested.specs.Levels.{lookupsOf}
+use Rattle.steps.specs.Shifts.{endOf}
 
 -- ---- refusals
+
+-- 12: a depth over this
+abbrev pub mostDepth : ℕ
+mostDepth = 64
 
 -- records that aren't pairs, or over 16 of them
 abbrev pub badRecords : List ℕ → Bool

@@ -28,10 +28,11 @@ use Rattle.runs.specs.ChainLaws.{FewValues, chain-fair}
 use Rattle.levels.specs.declared.Slots.{Slots}
 use Rattle.levels.specs.Slots.{levelOf, shown, Neat}
 use Rattle.levels.specs.Laws.{level-shown, shown-neat, count-is}
-use Rattle.nested.specs.declared.State.{State}
-use Rattle.nested.specs.declared.Ready.{Ready}
-use Rattle.nested.specs.declared.Aim.{Aim}
-use Rattle.nested.specs.State.{runOf, stageOf, Ran, Able, at, mostAllowance, Judgement, judged, readied, Prepared, actedBy, noAim, aimAt, aimedAt, Indexed, lookupsOf}
+use Rattle.steps.specs.declared.State.{State}
+use Rattle.steps.specs.declared.Ready.{Ready}
+use Rattle.steps.specs.declared.Aim.{Aim}
+use Rattle.steps.specs.State.{runOf, stageOf, Ran, Able, at, mostAllowance, Judgement, judged, readied, Prepared, actedBy, noAim, aimAt, aimedAt}
+use Rattle.nested.specs.Levels.{Indexed, lookupsOf}
 
 -- ---- the book
 

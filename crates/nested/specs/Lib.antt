@@ -1,7 +1,4 @@
-pub mod State
-pub mod Steps
-pub mod Shifts
-pub mod Aims
+pub mod Levels
 pub mod Cycle
 pub mod Turns
 pub mod Calls

@@ -22,9 +22,10 @@ use Rattle.runs.specs.Chain.{chainMatch}
 use Rattle.levels.specs.declared.Slots.{Slots}
 use Rattle.levels.specs.Slots.{levelOf, shown, Neat}
 use Rattle.levels.specs.Laws.{level-shown, shown-neat, count-is}
-use Rattle.nested.specs.declared.State.{State}
-use Rattle.nested.specs.declared.Ready.{Ready}
-use Rattle.nested.specs.State.{runOf, stageOf, Ran, Able, at, mostAllowance, Judgement, judged, readied, Prepared, closedAt, Indexed, lookupsOf}
+use Rattle.steps.specs.declared.State.{State}
+use Rattle.steps.specs.declared.Ready.{Ready}
+use Rattle.steps.specs.State.{runOf, stageOf, Ran, Able, at, mostAllowance, Judgement, judged, readied, Prepared, closedAt}
+use Rattle.nested.specs.Levels.{Indexed, lookupsOf}
 use Rattle.nested.specs.Cycle.{book-fair}
 
 -- the record of two words

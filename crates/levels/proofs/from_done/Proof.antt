@@ -4,26 +4,19 @@ use Rattle.levels.specs.Laws.{limit-fits}
 use borrow.Author.Needs.{needs}
 use Rattle.levels.proofs.from_done.Statement.{statement}
 use Rattle.levels.proofs.from_done.Tie as tie
-use Rattle.levels.proofs.from_done.Reads as reads
-use Rattle.levels.proofs.from_done.Lts as lts
 
--- src/lib.rt:177:17
 add-result : tie.Need-add-result
 add-result c = search needs
 
--- src/lib.rt:177:16
 cast-result : tie.Need-cast-result
 cast-result c = search needs
 
--- src/lib.rt:177:9
 returns : tie.Need-returns
 returns c = search needs
 
--- src/lib.rt:179:5
 cast-result-2 : tie.Need-cast-result-2
 cast-result-2 c = omega (arith, limit-fits)
 
--- src/lib.rt:171:1
 returns-2 : tie.Need-returns-2
 returns-2 c = search needs
 

@@ -5,78 +5,58 @@ use Rattle.levels.specs.Laws.{limit-fits, gain-before, gain-new, gain-la
 use borrow.Author.Needs.{needs}
 use Rattle.levels.proofs.gained_slot.Statement.{statement}
 use Rattle.levels.proofs.gained_slot.Tie as tie
-use Rattle.levels.proofs.gained_slot.Reads as reads
-use Rattle.levels.proofs.gained_slot.Lts as lts
 
--- src/lib.rt:103:16
 mul-result : tie.Need-mul-result
 mul-result c = search needs
 
--- src/lib.rt:103:16
 element-copy-out-result : tie.Need-element-copy-out-result
 element-copy-out-result c = search needs
 
--- src/lib.rt:103:9
 returns : tie.Need-returns
 returns c = let a = c .before .before .args in gain-before (a .at .now) (a .count) (a .i) (a .n) (c .before .before .pre .0) (c .before .before .pre .1) (a .j) (c .before .if1 .taken)
 
--- src/lib.rt:105:13
 add-if2 : tie.Need-add-if2
 add-if2 c = search needs
 
--- src/lib.rt:106:16
 mul-result-2 : tie.Need-mul-result-2
 mul-result-2 c = search needs
 
--- src/lib.rt:106:16
 element-copy-out-result-2 : tie.Need-element-copy-out-result-2
 element-copy-out-result-2 c = search needs
 
--- src/lib.rt:106:26
 sub-result : tie.Need-sub-result
 sub-result c = search needs
 
--- src/lib.rt:106:25
 cast-result : tie.Need-cast-result
 cast-result c = search needs
 
--- src/lib.rt:106:16
 add-result : tie.Need-add-result
 add-result c = omega (arith, limit-fits, c .before .before .before .pre .0 .low (c .before .before .before .args .i) (c .before .before .before .pre .1))
 
--- src/lib.rt:106:9
 returns-2 : tie.Need-returns-2
 returns-2 c = let s = c .before .before .before in let a = s .args in gain-new (a .at .now) (a .count) (a .i) (a .n) (s .pre .0) (s .pre .1) (a .j) (c .before .before .if1 .left) (c .before .if2 .taken)
 
--- src/lib.rt:108:12
 add-if3 : tie.Need-add-if3
 add-if3 c = search needs
 
--- src/lib.rt:109:19
 sub-result-2 : tie.Need-sub-result-2
 sub-result-2 c = search needs
 
--- src/lib.rt:109:16
 mul-result-3 : tie.Need-mul-result-3
 mul-result-3 c = search needs
 
--- src/lib.rt:109:16
 element-copy-out-result-3 : tie.Need-element-copy-out-result-3
 element-copy-out-result-3 c = search needs
 
--- src/lib.rt:109:29
 cast-result-2 : tie.Need-cast-result-2
 cast-result-2 c = search needs
 
--- src/lib.rt:109:16
 add-result-2 : tie.Need-add-result-2
 add-result-2 c = let s = c .before .before .before .before in omega (arith, limit-fits, s .pre .0 .low (s .args .j - s .args .n) (omega arith))
 
--- src/lib.rt:109:9
 returns-3 : tie.Need-returns-3
 returns-3 c = let s = c .before .before .before .before in let a = s .args in gain-later (a .at .now) (a .count) (a .i) (a .n) (s .pre .0) (s .pre .1) (a .j) (c .before .before .if2 .left) (c .before .if3 .taken)
 
--- src/lib.rt:98:1
 returns-4 : tie.Need-returns-4
 returns-4 c = let s = c .before .before .before in let a = s .args in gain-past (a .at .now) (a .count) (a .i) (a .n) (s .pre .0) (s .pre .1) (a .j) (c .if3 .left)
 

@@ -7,9 +7,6 @@ use Rattle.runs.specs.Repair.{lost}
 use Rattle.levels.specs.Laws.{filled-more, filled-all, loss-few}
 use Rattle.levels.proofs.lost_slots.Statement.{statement}
 use Rattle.levels.proofs.lost_slots.Tie as tie
-use Rattle.levels.proofs.lost_slots.Reads as reads
-use Rattle.levels.proofs.lost_slots.Lts as lts
-use Rattle.levels.proofs.lost_slot.Reads as lost-slot-reads
 
 abbrev Inv-loop : tie.InvT-loop
 Inv-loop at i n count out₀ j₀ out j = (j ≤ 64) × (length out ≡ 64) × ((k : ℕ) → k < j → getD out k 0 ≡ getD (lost i n (take count at)) k 0)
@@ -17,35 +14,27 @@ Inv-loop at i n count out₀ j₀ out j = (j ≤ 64) × (length out ≡ 64) × (
 abbrev μ-loop : tie.MeasureT-loop
 μ-loop at i n count out₀ j₀ out j = 64 - j
 
--- src/lib.rt:121:5
 loop-holds : tie.Need-loop-holds Inv-loop μ-loop
 loop-holds c = (omega arith, refl, λ k h. let z : ⊥ = omega arith in absurd z)
 
--- src/lib.rt:122:18
 lost-slot-requires : tie.Need-lost-slot-requires Inv-loop μ-loop
 lost-slot-requires c κs = let q = c .before .before .pre in (q .0, q .1, q .2, c .loop-test .taken)
 
--- src/lib.rt:122:9
 mul-out : tie.Need-mul-out Inv-loop μ-loop
 mul-out c = omega arith
 
--- src/lib.rt:122:9
 array-write-out : tie.Need-array-write-out Inv-loop μ-loop
 array-write-out c = omega arith
 
--- src/lib.rt:123:9
 add-j : tie.Need-add-j Inv-loop μ-loop
 add-j c = omega arith
 
--- src/lib.rt:121:5
 loop-less : tie.Need-loop-less Inv-loop μ-loop
 loop-less c = omega arith
 
--- src/lib.rt:121:5
 loop-again : tie.Need-loop-again Inv-loop μ-loop
 loop-again c = let a = c .before .before .before .args in let l = c .before .before .loop in (omega arith, simp length-set (l .inv .1), filled-more (l .out) (l .j) _ (lost (a .i) (a .n) (take (a .count) (a .at .now))) (omega arith) (l .inv .2) (c .lost-slot .ensures))
 
--- src/lib.rt:115:1
 returns : tie.Need-returns Inv-loop μ-loop
 returns c = let l = c .before .loop in let s = c .before .before in let a = s .args in filled-all (l .out) (lost (a .i) (a .n) (take (a .count) (a .at .now))) (l .j) (l .inv .1) (omega arith) (loss-few (a .at .now) (a .count) (a .i) (a .n) (s .pre .0) (s .pre .1) (s .pre .2)) (l .inv .2)
 

@@ -9,9 +9,6 @@ use Rattle.levels.specs.Laws.{filled-more, filled-all, open-many, limit-
 use Rattle.levels.specs.Repairs.{opened-is}
 use Rattle.levels.proofs.open.Statement.{statement}
 use Rattle.levels.proofs.open.Tie as tie
-use Rattle.levels.proofs.open.Reads as reads
-use Rattle.levels.proofs.open.Lts as lts
-use Rattle.levels.proofs.opened_slot.Reads as opened-slot-reads
 
 abbrev Inv-loop : tie.InvT-loop
 Inv-loop places count end idx d out₀ j₀ out j = (j ≤ 64) × (length out ≡ 64) × ((k : ℕ) → k < j → getD out k 0 ≡ getD (map (fromDone idx d) (take count places)) k 0)
@@ -19,43 +16,33 @@ Inv-loop places count end idx d out₀ j₀ out j = (j ≤ 64) × (length out �
 abbrev μ-loop : tie.MeasureT-loop
 μ-loop places count end idx d out₀ j₀ out j = 64 - j
 
--- src/lib.rt:148:5
 loop-holds : tie.Need-loop-holds Inv-loop μ-loop
 loop-holds c = (omega arith, refl, λ k h. let z : ⊥ = omega arith in absurd z)
 
--- src/lib.rt:149:18
 opened-slot-requires : tie.Need-opened-slot-requires Inv-loop μ-loop
 opened-slot-requires c κs = let q = c .before .before .pre in (q .0, q .1, c .loop-test .taken, q .4, omega arith)
 
--- src/lib.rt:149:9
 mul-out : tie.Need-mul-out Inv-loop μ-loop
 mul-out c = omega arith
 
--- src/lib.rt:149:9
 array-write-out : tie.Need-array-write-out Inv-loop μ-loop
 array-write-out c = omega arith
 
--- src/lib.rt:150:9
 add-j : tie.Need-add-j Inv-loop μ-loop
 add-j c = omega arith
 
--- src/lib.rt:148:5
 loop-less : tie.Need-loop-less Inv-loop μ-loop
 loop-less c = omega arith
 
--- src/lib.rt:148:5
 loop-again : tie.Need-loop-again Inv-loop μ-loop
 loop-again c = let a = c .before .before .before .args in let l = c .before .before .loop in (omega arith, simp length-set (l .inv .1), filled-more (l .out) (l .j) _ (map (fromDone (a .idx) (a .d)) (take (a .count) (a .places .now))) (omega arith) (l .inv .2) (c .opened-slot .ensures))
 
--- src/lib.rt:154:19
 sub-t13 : tie.Need-sub-t13 Inv-loop μ-loop
 sub-t13 c = omega arith
 
--- src/lib.rt:154:14
 add-t14 : tie.Need-add-t14 Inv-loop μ-loop
 add-t14 c = omega (arith, limit-fits)
 
--- src/lib.rt:142:1
 returns : tie.Need-returns Inv-loop μ-loop
 returns c = let s = c .before .before in let a = s .args in let l = c .before .loop in let m = open-many (a .idx) (a .d) (a .places .now) (a .count) (s .pre .0) (s .pre .1) in opened-is (a .idx) (a .d) (a .places .now) (a .count) (a .end) (l .out) m (filled-all (l .out) (map (fromDone (a .idx) (a .d)) (take (a .count) (a .places .now))) (l .j) (l .inv .1) (omega arith) (omega arith) (l .inv .2))
 

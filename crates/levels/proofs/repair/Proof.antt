@@ -6,32 +6,22 @@ use Rattle.levels.specs.Repairs.{repair-up, repair-down, repair-none, ow
 use borrow.Author.Needs.{needs}
 use Rattle.levels.proofs.repair.Statement.{statement}
 use Rattle.levels.proofs.repair.Tie as tie
-use Rattle.levels.proofs.repair.Reads as reads
-use Rattle.levels.proofs.repair.Lts as lts
-use Rattle.levels.proofs.grow.Reads as grow-reads
-use Rattle.levels.proofs.shrink.Reads as shrink-reads
 
--- src/lib.rt:28:28
 sub-grow : tie.Need-sub-grow
 sub-grow c = search needs
 
--- src/lib.rt:28:9
 grow-requires : tie.Need-grow-requires
 grow-requires c κs = let s = c .before in let a = s .args in (placed (a .lv) (s .pre .0) (s .pre .1) (s .pre .3), s .pre .2, omega (arith, s .pre .1 .within), s .pre .0)
 
--- src/lib.rt:28:9
 returns : tie.Need-returns
 returns c = let s = c .before .before in let a = s .args in c .grow .ensures ∙ repair-up (a .lv) (a .i) (a .old) (a .new) (c .before .if1 .taken)
 
--- src/lib.rt:31:9
 shrink-requires : tie.Need-shrink-requires
 shrink-requires c κs = let s = c .before .before in let a = s .args in (placed (a .lv) (s .pre .0) (s .pre .1) (s .pre .3), s .pre .2, own-before (a .lv) (s .pre .0) (s .pre .1) (a .i) (s .pre .2))
 
--- src/lib.rt:31:9
 returns-2 : tie.Need-returns-2
 returns-2 c = let s = c .before .before .before in let a = s .args in c .shrink .ensures ∙ repair-down (a .lv) (a .i) (a .old) (a .new) (c .before .before .if1 .left) (c .before .if2 .taken)
 
--- src/lib.rt:23:1
 returns-3 : tie.Need-returns-3
 returns-3 c = let s = c .before .before in let a = s .args in repair-none (a .lv) (a .i) (a .old) (a .new) (s .pre .0) (c .before .if1 .left) (c .if2 .left)
 

@@ -3,56 +3,40 @@ use Rattle.levels.specs.Repairs.{shrunk-is}
 use borrow.Author.Needs.{needs}
 use Rattle.levels.proofs.shrink.Statement.{statement}
 use Rattle.levels.proofs.shrink.Tie as tie
-use Rattle.levels.proofs.shrink.Reads as reads
-use Rattle.levels.proofs.shrink.Lts as lts
-use Rattle.levels.proofs.least.Reads as least-reads
-use Rattle.levels.proofs.lost_slots.Reads as lost-slots-reads
 
--- src/lib.rt:66:15
 mul-own : tie.Need-mul-own
 mul-own c = search needs
 
--- src/lib.rt:66:15
 array-read-own : tie.Need-array-read-own
 array-read-own c = search needs
 
--- src/lib.rt:66:15
 cast-own : tie.Need-cast-own
 cast-own c = search needs
 
--- src/lib.rt:67:25
 sub-least : tie.Need-sub-least
 sub-least c = search needs
 
--- src/lib.rt:67:9
 least-requires : tie.Need-least-requires
 least-requires c κs = search needs
 
--- src/lib.rt:68:37
 add-least : tie.Need-add-least
 add-least c = search needs
 
--- src/lib.rt:68:28
 sub-least-2 : tie.Need-sub-least-2
 sub-least-2 c = search needs
 
--- src/lib.rt:68:9
 least-requires-2 : tie.Need-least-requires-2
 least-requires-2 c κs = search needs
 
--- src/lib.rt:69:9
 lost-slots-requires : tie.Need-lost-slots-requires
 lost-slots-requires c κs = search needs
 
--- src/lib.rt:72:14
 sub-t11 : tie.Need-sub-t11
 sub-t11 c = search needs
 
--- src/lib.rt:73:16
 sub-t15 : tie.Need-sub-t15
 sub-t15 c = search needs
 
--- src/lib.rt:59:1
 returns : tie.Need-returns
 returns c = let s = c .before .before .before .before .before in let a = s .args in rw (c .lost-slots .ensures) (shrunk-is (a .lv) (a .i) (a .n) (s .pre .0) (s .pre .1) (c .before .before .before .least .result) (c .before .before .least2 .result) (c .before .before .before .least .ensures) (c .before .before .least2 .ensures))
 

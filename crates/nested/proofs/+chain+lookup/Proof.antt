@@ -12,8 +12,9 @@ use Rattle.runs.specs.Repair.{repaired}
 use Rattle.runs.specs.Run.{Stage, recordsBy, stepBy}
 use Rattle.levels.specs.declared.Slots.{Slots}
 use Rattle.levels.specs.Slots.{levelOf, shown, Neat}
-use Rattle.nested.specs.declared.State.{State}
-use Rattle.nested.specs.State.{stageOf, Able, Indexed}
+use Rattle.steps.specs.declared.State.{State}
+use Rattle.steps.specs.State.{stageOf, Able}
+use Rattle.nested.specs.Levels.{Indexed}
 use Rattle.nested.specs.Cycle.{entry-good, look-hit, look-miss, aim-sound}
 use Rattle.nested.specs.Turns.{recordAt, ready-neat, tried-deep, tried-inside, tried-few, tried-sound, tried-index, nestedAt, still-able, turn-rest, turn-go, records-turn, records-over, closed-is, closed-level, glyph-there, size-within, neat-is}
 use Prim.Native.Nat.{ℕ, _<_, _≤_, _+_, _-_}
@@ -27,10 +28,10 @@ use Rattle.nested.proofs.lookup.Kinds as lookup-kinds
 use Rattle.nested.proofs.+chain+lookup.Lts-lookup as lookup-lts
 use Rattle.book.proofs.find_in.Reads as find-in-reads
 use Rattle.levels.proofs.repair.Reads as repair-reads
-use Rattle.nested.proofs.act.Reads as act-reads
-use Rattle.nested.proofs.finish.Reads as finish-reads
-use Rattle.nested.proofs.prepare.Reads as prepare-reads
-use Rattle.nested.proofs.take_aim.Reads as take-aim-reads
+use Rattle.steps.proofs.act.Reads as act-reads
+use Rattle.steps.proofs.finish.Reads as finish-reads
+use Rattle.steps.proofs.prepare.Reads as prepare-reads
+use Rattle.steps.proofs.take_aim.Reads as take-aim-reads
 use Rattle.text.proofs.size.Reads as size-reads
 use Rattle.nested.proofs.+chain+lookup.{statement}
 use Rattle.nested.proofs.+chain+lookup.Tie.{close}

@@ -7,8 +7,8 @@ use Rattle.book.specs.Book.{recordsOf}
 use Rattle.runs.specs.Run.{begun, chainRun}
 use Rattle.runs.specs.Chain.{chainMatch}
 use Rattle.levels.specs.Slots.{movedLevel}
-use Rattle.nested.specs.State.{lookupsOf}
-use Rattle.nested.specs.Shifts.{endOf}
+use Rattle.nested.specs.Levels.{lookupsOf}
+use Rattle.steps.specs.Shifts.{endOf}
 use Rattle.nested.specs.Calls.{runSays}
 use Rattle.nested.specs.declared.Refusal.the-variants.{Match}
 use Rattle.nested.specs.CallLaws.{said-refused, said-whole, match-bad, match-good, end-is, places-show, open-asks, level-neat, level-sound, first-sound, whole-first}
@@ -16,54 +16,37 @@ use Rattle.nested.proofs.Cases.{other}
 use borrow.Author.Needs.{needs}
 use Rattle.nested.proofs.apply.Statement.{statement}
 use Rattle.nested.proofs.apply.Tie as tie
-use Rattle.nested.proofs.apply.Reads as reads
-use Rattle.nested.proofs.apply.Lts as lts
-use Rattle.levels.proofs.open.Reads as open-reads
-use Rattle.nested.proofs.go.Reads as go-reads
-use Rattle.nested.proofs.is_level.Reads as is-level-reads
-use Rattle.nested.proofs.refuse.Reads as refuse-reads
 
--- src/lib.rt:672:32
 enum-known-answer : tie.Need-enum-known-answer
 enum-known-answer c = search needs
 
--- src/lib.rt:673:9
 refuse-requires : tie.Need-refuse-requires
 refuse-requires c κs = search needs
 
--- src/lib.rt:673:9
 returns : tie.Need-returns
 returns c = let a = c .before .before .before .before .before .before .before .args in said-refused _ Match _ (a .done .now) (a .coming .now) (c .refuse .result) (other (a .matched .answer) (a .place .idx) (a .matched .count) (a .matched .positions) (c .before .match .keys2)) (c .refuse .ensures)
 
--- src/lib.rt:678:9
 is-level-requires : tie.Need-is-level-requires
 is-level-requires c κs = search needs
 
--- src/lib.rt:679:9
 refuse-requires-2 : tie.Need-refuse-requires-2
 refuse-requires-2 c κs = search needs
 
--- src/lib.rt:679:9
 returns-2 : tie.Need-returns-2
 returns-2 c = let a = c .before .before .before .before .before .before .before .before .before .before .before .before .before .args in said-refused _ Match _ (a .done .now) (a .coming .now) (c .refuse2 .result) (match-bad (a .place .idx) (c .before .before .before .before .before .before .answer .given .0 .0) (c .before .before .before .before .before .before .answer .given .0 .1 .0) (a .matched .count) (a .matched .positions) (a .matched .answer) (c .before .before .before .before .before .before .answer .given .1) (sym (c .before .before .is-level .ensures) ∙ not-true _ (c .before .if1 .taken))) (c .refuse2 .ensures)
 
--- src/lib.rt:681:9
 open-requires : tie.Need-open-requires
 open-requires c κs = let s = c .before .before .before .before .before .before .before .before .before .before .before .before .before in let a = s .args in open-asks (a .done .now) (a .coming .now) (a .place) (s .pre .1) (c .before .before .before .before .before .before .answer .given .0 .0) (a .matched .count) (a .matched .positions) (is-level-requires (c .before .before .before) (c .before .before .is-level .lifetimes)) (places-show (a .place .idx) (c .before .before .before .before .before .before .answer .given .0 .0) (a .matched .count) (a .matched .positions) (sym (c .before .before .is-level .ensures) ∙ not-false _ (c .before .if1 .left)))
 
--- src/lib.rt:682:5
 go-requires : tie.Need-go-requires
 go-requires c κs = let s = c .before .before .before .before .before .before .before .before .before .before .before .before .before .before .before .before in let a = s .args in (s .pre .0, s .pre .1, s .pre .3, level-neat (c .before .before .open .result) (movedLevel (a .place .idx) (a .place .d) (take (a .matched .count) (a .matched .positions)) (c .before .before .before .before .before .before .before .before .before .answer .given .0 .0)) (c .before .before .open .ensures), level-sound _ (c .before .before .open .result) (movedLevel (a .place .idx) (a .place .d) (take (a .matched .count) (a .matched .positions)) (c .before .before .before .before .before .before .before .before .before .answer .given .0 .0)) (c .before .before .open .ensures) (first-sound (a .done .now) (a .coming .now) (a .place) (s .pre .1) (c .before .before .before .before .before .before .before .before .before .answer .given .0 .0) (a .matched .count) (a .matched .positions) (is-level-requires (c .before .before .before .before .before .before) (c .before .before .before .before .before .is-level .lifetimes)) (places-show (a .place .idx) (c .before .before .before .before .before .before .before .before .before .answer .given .0 .0) (a .matched .count) (a .matched .positions) (sym (c .before .before .before .before .before .is-level .ensures) ∙ not-false _ (c .before .before .before .before .if1 .left)))))
 
--- src/lib.rt:652:1
 same-length : tie.Need-same-length
 same-length c = search needs
 
--- src/lib.rt:652:1
 same-length-2 : tie.Need-same-length-2
 same-length-2 c = search needs
 
--- src/lib.rt:652:1
 returns-3 : tie.Need-returns-3
 returns-3 c = let a = c .before .before .before .before .before .before .before .before .before .before .before .before .before .before .before .before .before .before .before .before .before .args in let e = c .before .before .before .before .before .before .before .before .before .before .before .before .before .before .answer .given in let g = c .before .before .before .before .go in said-whole _ (runSays (a .done .now) (a .coming .now) (a .place) (a .sets .now) (a .book .now) (a .records .now) (a .matched) (a .given) (a .allowance) (a .depth)) (a .done .now) (a .coming .now) (g .last .0) (g .last .1 .0) (g .result) (match-good (a .place .idx) (e .0 .0) (e .0 .1 .0) (a .matched .count) (a .matched .positions) (a .matched .answer) (e .1) (sym (c .before .before .before .before .before .before .before .before .before .before .is-level .ensures) ∙ not-false _ (c .before .before .before .before .before .before .before .before .before .if1 .left))) (whole-first (chainRun (chainMatch (a .given) (a .sets .now)) (lookupsOf (a .book .now)) (a .depth) (recordsOf (a .records .now))) (begun (a .allowance) (textOf (a .done .now) (a .coming .now) (a .place))) (c .before .before .before .before .before .before .before .open .result) (a .place .idx) (a .place .d) (take (a .matched .count) (a .matched .positions)) (e .0 .0) (endOf (a .matched .answer)) (g .last .0) (g .last .1 .0) (g .result) (c .before .before .before .before .before .before .before .open .ensures) (end-is (a .place .idx) (e .0 .0) (e .0 .1 .0) (a .matched .count) (a .matched .positions) (a .matched .answer) (e .1)) (g .ensures))
 

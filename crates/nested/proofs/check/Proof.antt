@@ -3,45 +3,31 @@ use Rattle.nested.specs.Calls.{checkedFirst}
 use borrow.Author.Needs.{needs}
 use Rattle.nested.proofs.check.Statement.{statement}
 use Rattle.nested.proofs.check.Tie as tie
-use Rattle.nested.proofs.check.Reads as reads
-use Rattle.nested.proofs.check.Lts as lts
-use Rattle.glyph.proofs.is_odd.Reads as is-odd-reads
-use Rattle.nested.proofs.is_bad_list.Reads as is-bad-list-reads
-use Rattle.text.proofs.is_past_end.Reads as is-past-end-reads
-use Rattle.text.proofs.is_unfit.Reads as is-unfit-reads
 
--- src/lib.rt:618:8
 is-unfit-requires : tie.Need-is-unfit-requires
 is-unfit-requires c κs = search needs
 
--- src/lib.rt:618:47
 is-odd-requires : tie.Need-is-odd-requires
 is-odd-requires c κs = search needs
 
--- src/lib.rt:618:69
 is-bad-list-requires : tie.Need-is-bad-list-requires
 is-bad-list-requires c κs = search needs
 
--- src/lib.rt:619:9
 returns : tie.Need-returns
 unfolding checkedFirst
 returns c = rw (← c .before .before .before .is-unfit .ensures, ← c .before .before .is-odd .ensures, ← c .before .is-bad-list .ensures, c .if1 .taken)
 
--- src/lib.rt:621:8
 is-past-end-requires : tie.Need-is-past-end-requires
 is-past-end-requires c κs = search needs
 
--- src/lib.rt:622:9
 returns-2 : tie.Need-returns-2
 unfolding checkedFirst
 returns-2 c = rw (← c .before .before .before .before .before .is-unfit .ensures, ← c .before .before .before .before .is-odd .ensures, ← c .before .before .before .is-bad-list .ensures, c .before .before .if1 .left, ← c .before .is-past-end .ensures, c .if2 .taken)
 
--- src/lib.rt:625:9
 returns-3 : tie.Need-returns-3
 unfolding checkedFirst
 returns-3 c = rw (← c .before .before .before .before .before .before .is-unfit .ensures, ← c .before .before .before .before .before .is-odd .ensures, ← c .before .before .before .before .is-bad-list .ensures, c .before .before .before .if1 .left, ← c .before .before .is-past-end .ensures, c .before .if2 .left, c .if3 .taken)
 
--- src/lib.rt:607:1
 returns-4 : tie.Need-returns-4
 unfolding checkedFirst
 returns-4 c = rw (← c .before .before .before .before .before .before .is-unfit .ensures, ← c .before .before .before .before .before .is-odd .ensures, ← c .before .before .before .before .is-bad-list .ensures, c .before .before .before .if1 .left, ← c .before .before .is-past-end .ensures, c .before .if2 .left, c .if3 .left)

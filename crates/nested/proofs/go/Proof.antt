@@ -4,28 +4,19 @@ use Rattle.nested.specs.CallLaws.{whole-is}
 use borrow.Author.Needs.{needs}
 use Rattle.nested.proofs.go.Statement.{statement}
 use Rattle.nested.proofs.go.Tie as tie
-use Rattle.nested.proofs.go.Reads as reads
-use Rattle.nested.proofs.go.Lts as lts
-use Rattle.nested.proofs.chain.Reads as chain-reads
-use Rattle.text.proofs.clear_outside.Reads as clear-outside-reads
 
--- src/lib.rt:757:9
 chain-requires : tie.Need-chain-requires
 chain-requires c κs = let s = c .before .before .before .before .before .before .before in (s .pre .0, record { fits = s .pre .1; few = omega (arith, s .pre .2); neat = s .pre .3; sound = s .pre .4 })
 
--- src/lib.rt:761:5
 clear-outside-requires : tie.Need-clear-outside-requires
 clear-outside-requires c κs = search needs
 
--- src/lib.rt:733:1
 same-length : tie.Need-same-length
 same-length c = search needs
 
--- src/lib.rt:733:1
 same-length-2 : tie.Need-same-length-2
 same-length-2 c = search needs
 
--- src/lib.rt:733:1
 returns : tie.Need-returns
 returns c = let r = c .before .before .before .before .before .before .before .before .before .before .before .before .before .before .before .chain in let k = c .before .before .before .before .before .clear-outside in whole-is _ (r .last .0) (r .last .1 .0) (k .last .0) (k .last .1 .0) (r .result) (r .ensures) (k .ensures .0) (k .ensures .1)
 

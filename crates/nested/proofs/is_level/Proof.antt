@@ -4,40 +4,28 @@ use Rattle.nested.specs.CallLaws.{places-none, places-many, places-long,
 use borrow.Author.Needs.{needs}
 use Rattle.nested.proofs.is_level.Statement.{statement}
 use Rattle.nested.proofs.is_level.Tie as tie
-use Rattle.nested.proofs.is_level.Reads as reads
-use Rattle.nested.proofs.is_level.Lts as lts
-use Rattle.nested.proofs.is_rising.Reads as is-rising-reads
-use Rattle.nested.proofs.wide.Reads as wide-reads
 
--- src/lib.rt:691:9
 returns : tie.Need-returns
 returns c = let a = c .before .args in places-none (a .idx) (a .end) (a .count) (a .places .now) (c .if1 .taken)
 
--- src/lib.rt:694:9
 returns-2 : tie.Need-returns-2
 returns-2 c = let a = c .before .before .args in places-many (a .idx) (a .end) (a .count) (a .places .now) (c .before .if1 .left) (c .if2 .taken)
 
--- src/lib.rt:697:9
 returns-3 : tie.Need-returns-3
 returns-3 c = let a = c .before .before .before .args in places-long (a .idx) (a .end) (a .count) (a .places .now) (c .before .before .if1 .left) (c .before .if2 .left) (limit-is (c .if3 .taken))
 
--- src/lib.rt:699:13
 element-copy-out-wide : tie.Need-element-copy-out-wide
 element-copy-out-wide c = search needs
 
--- src/lib.rt:699:8
 wide-requires : tie.Need-wide-requires
 wide-requires c κs = search needs
 
--- src/lib.rt:700:9
 returns-4 : tie.Need-returns-4
 returns-4 c = let a = c .before .before .before .before .before .before .args in places-first (a .idx) (a .end) (a .count) (a .places .now) (c .before .before .before .before .before .if1 .left) (c .before .before .before .before .if2 .left) (limit-at (c .before .before .before .if3 .left)) (c .before .wide .result) (c .before .wide .ensures) (c .if4 .taken)
 
--- src/lib.rt:702:5
 is-rising-requires : tie.Need-is-rising-requires
 is-rising-requires c κs = search needs
 
--- src/lib.rt:686:1
 returns-5 : tie.Need-returns-5
 returns-5 c = let a = c .before .before .before .before .before .before .before .args in c .is-rising .ensures ∙ places-rise (a .idx) (a .end) (a .count) (a .places .now) (c .before .before .before .before .before .before .if1 .left) (c .before .before .before .before .before .if2 .left) (limit-at (c .before .before .before .before .if3 .left)) (c .before .before .wide .result) (c .before .before .wide .ensures) (c .before .if4 .left)
 

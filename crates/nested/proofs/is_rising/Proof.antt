@@ -8,9 +8,6 @@ use Rattle.nested.specs.Calls.{risesTo}
 use Rattle.nested.specs.CallLaws.{rise-low, rise-past, rise-on, rise-end, rise-start}
 use Rattle.nested.proofs.is_rising.Statement.{statement}
 use Rattle.nested.proofs.is_rising.Tie as tie
-use Rattle.nested.proofs.is_rising.Reads as reads
-use Rattle.nested.proofs.is_rising.Lts as lts
-use Rattle.nested.proofs.wide.Reads as wide-reads
 
 abbrev Inv-loop : tie.InvT-loop
 Inv-loop places count end from low₀ i₀ low i = (i ≤ count) × (risesTo from end (take count places) ≡ risesTo low end (drop i (take count places)))
@@ -18,47 +15,36 @@ Inv-loop places count end from low₀ i₀ low i = (i ≤ count) × (risesTo fro
 abbrev μ-loop : tie.MeasureT-loop
 μ-loop places count end from low₀ i₀ low i = count - i
 
--- src/lib.rt:712:5
 loop-holds : tie.Need-loop-holds Inv-loop μ-loop
 loop-holds c = (omega arith, rise-start (c .args .from) (c .args .end) (take (c .args .count) (c .args .places .now)))
 
--- src/lib.rt:713:22
 mul-wide : tie.Need-mul-wide Inv-loop μ-loop
 mul-wide c = omega arith
 
--- src/lib.rt:713:22
 element-copy-out-wide : tie.Need-element-copy-out-wide Inv-loop μ-loop
 element-copy-out-wide c = omega arith
 
--- src/lib.rt:713:13
 wide-requires : tie.Need-wide-requires Inv-loop μ-loop
 wide-requires c κs = search needs
 
--- src/lib.rt:715:13
 returns : tie.Need-returns Inv-loop μ-loop
 returns c = let s = c .before .before .before .before .before in let l = c .before .before .before .before .loop in rise-low (s .args .from) (s .args .end) (s .args .count) (s .args .places .now) (s .pre .0) (s .pre .1) (l .low) (l .i) (c .before .wide .result) (c .before .before .before .loop-test .taken) (l .inv .1) (c .before .wide .ensures) (c .if1 .taken)
 
--- src/lib.rt:718:13
 returns-2 : tie.Need-returns-2 Inv-loop μ-loop
 returns-2 c = let s = c .before .before .before .before .before .before in let l = c .before .before .before .before .before .loop in rise-past (s .args .from) (s .args .end) (s .args .count) (s .args .places .now) (s .pre .0) (s .pre .1) (l .low) (l .i) (c .before .before .wide .result) (c .before .before .before .before .loop-test .taken) (l .inv .1) (c .before .before .wide .ensures) (c .before .if1 .left) (c .if2 .taken)
 
--- src/lib.rt:720:15
 add-low : tie.Need-add-low Inv-loop μ-loop
 add-low c = omega arith
 
--- src/lib.rt:721:9
 add-i : tie.Need-add-i Inv-loop μ-loop
 add-i c = omega arith
 
--- src/lib.rt:712:5
 loop-less : tie.Need-loop-less Inv-loop μ-loop
 loop-less c = omega arith
 
--- src/lib.rt:712:5
 loop-again : tie.Need-loop-again Inv-loop μ-loop
 loop-again c = let s = c .before .before .before .before .before .before in let l = c .before .before .before .before .before .loop in (omega arith, rise-on (s .args .from) (s .args .end) (s .args .count) (s .args .places .now) (s .pre .0) (s .pre .1) (l .low) (l .i) (c .before .before .wide .result) (c .before .before .before .before .loop-test .taken) (l .inv .1) (c .before .before .wide .ensures) (c .before .if1 .left) (c .if2 .left))
 
--- src/lib.rt:706:1
 returns-3 : tie.Need-returns-3 Inv-loop μ-loop
 returns-3 c = let s = c .before .before in let l = c .before .loop in rise-end (s .args .from) (s .args .end) (s .args .count) (s .args .places .now) (s .pre .0) (s .pre .1) (l .low) (l .i) (c .loop-test .left) (l .inv .1)
 

@@ -7,73 +7,52 @@ use Rattle.nested.specs.CallLaws.{said-refused, said-same, all-first, al
 use borrow.Author.Needs.{needs}
 use Rattle.nested.proofs.run.Statement.{statement}
 use Rattle.nested.proofs.run.Tie as tie
-use Rattle.nested.proofs.run.Reads as reads
-use Rattle.nested.proofs.run.Lts as lts
-use Rattle.book.proofs.index_of.Reads as index-of-reads
-use Rattle.nested.proofs.apply.Reads as apply-reads
-use Rattle.nested.proofs.check.Reads as check-reads
-use Rattle.nested.proofs.refuse.Reads as refuse-reads
 
--- src/lib.rt:592:11
 check-requires : tie.Need-check-requires
 check-requires c κs = search needs
 
--- src/lib.rt:593:26
 enum-known-why : tie.Need-enum-known-why
 enum-known-why c = search needs
 
--- src/lib.rt:593:34
 refuse-requires : tie.Need-refuse-requires
 refuse-requires c κs = search needs
 
--- src/lib.rt:593:34
 same-length : tie.Need-same-length
 same-length c = search needs
 
--- src/lib.rt:593:34
 same-length-2 : tie.Need-same-length-2
 same-length-2 c = search needs
 
--- src/lib.rt:593:34
 returns : tie.Need-returns
 returns c = let a = c .before .before .before .before .before .before .before .before .before .before .before .before .args in said-refused _ (c .before .before .why .given .0 .0) _ (a .done .now) (a .coming .now) (c .refuse .result) (all-first (a .done .now) (a .coming .now) (record { d = a .d; idx = a .idx }) (a .sets .now) (a .book .now) (a .records .now) (a .matched) (a .allowance) (a .depth) (c .before .before .why .given .0 .0) (sym (c .before .before .before .before .check .ensures) ∙ c .before .before .why .given .1)) (c .refuse .ensures)
 
 enum-told : tie.Need-enum-told
 enum-told c = search needs
 
--- src/lib.rt:596:9
 index-of-requires : tie.Need-index-of-requires
 index-of-requires c κs = search needs
 
--- src/lib.rt:599:9
 refuse-requires-2 : tie.Need-refuse-requires-2
 refuse-requires-2 c κs = search needs
 
--- src/lib.rt:599:9
 same-length-3 : tie.Need-same-length-3
 same-length-3 c = search needs
 
--- src/lib.rt:599:9
 same-length-4 : tie.Need-same-length-4
 same-length-4 c = search needs
 
--- src/lib.rt:599:9
 returns-2 : tie.Need-returns-2
 returns-2 c = let a = c .before .before .before .before .before .before .before .before .before .before .before .before .before .args in said-refused _ Book _ (a .done .now) (a .coming .now) (c .refuse2 .result) (all-book (a .done .now) (a .coming .now) (record { d = a .d; idx = a .idx }) (a .sets .now) (a .book .now) (a .records .now) (a .matched) (a .allowance) (a .depth) (sym (c .before .before .before .before .before .check .ensures) ∙ c .before .before .before .enum-told .given .1) (sym (index-reads (a .book .now)) ∙ ap (λ (x : Index). x .reads) (sym (c .before .before .index-of .ensures)) ∙ not-true _ (c .before .if1 .taken))) (c .refuse2 .ensures)
 
--- src/lib.rt:603:5
 apply-requires : tie.Need-apply-requires
 apply-requires c κs = let a = c .before .before .before .before .before .before .before .before .before .before .before .before .before .before .before .before .args in let f = first-shows (a .done .now) (a .coming .now) (record { d = a .d; idx = a .idx }) (a .sets .now) (a .book .now) (a .records .now) (a .matched) (a .allowance) (a .depth) (sym (c .before .before .before .before .before .before .before .before .check .ensures) ∙ c .before .before .before .before .before .before .enum-told .given .1) in (index-is (a .book .now) (c .before .before .before .before .before .index-of .result) (c .before .before .before .before .before .index-of .ensures) (not-false _ (c .before .before .before .before .if1 .left)), f .0, f .1, f .2)
 
--- src/lib.rt:574:1
 same-length-5 : tie.Need-same-length-5
 same-length-5 c = search needs
 
--- src/lib.rt:574:1
 same-length-6 : tie.Need-same-length-6
 same-length-6 c = search needs
 
--- src/lib.rt:574:1
 returns-3 : tie.Need-returns-3
 returns-3 c = let a = c .before .before .before .before .before .before .before .before .before .before .before .before .before .before .before .before .before .before .before .before .before .args in let g = c .before .before .before .before .apply in said-same _ _ _ (a .done .now) (a .coming .now) (g .last .0) (g .last .1 .0) (g .result) (all-match (a .done .now) (a .coming .now) (record { d = a .d; idx = a .idx }) (a .sets .now) (a .book .now) (a .records .now) (a .matched) (a .allowance) (a .depth) (sym (c .before .before .before .before .before .before .before .before .before .before .before .before .before .check .ensures) ∙ c .before .before .before .before .before .before .before .before .before .before .before .enum-told .given .1) (sym (index-reads (a .book .now)) ∙ ap (λ (x : Index). x .reads) (sym (c .before .before .before .before .before .before .before .before .before .before .index-of .ensures)) ∙ not-false _ (c .before .before .before .before .before .before .before .before .before .if1 .left))) (g .ensures)
 

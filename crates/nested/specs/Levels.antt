@@ -1,0 +1,31 @@
+-- What a level of the run may count on and leaves, as the code keeps it.
+use mathlib.Core.Path.{_≡_}
+use mathlib.Core.Bool.{true}
+use mathlib.Core.List.{List, []}
+use Prim.Native.Nat.{ℕ}
+use Rattle.book.specs.Book.{Lookup, Reading, Reads, Unreadable, readBook}
+use Rattle.book.specs.Places.{indexOf}
+use Rattle.runs.specs.Run.{Stage}
+use Rattle.levels.specs.Slots.{shown}
+use Rattle.steps.specs.State.{Ran}
+use Rattle.nested.specs.declared.Closed.{Closed}
+
+-- ---- the book, read once
+
+abbrev pub lookupsBy : Reading → List Lookup
+lookupsBy (Reads ls) = ls
+lookupsBy Unreadable = []
+
+-- the lookups of a book that reads
+abbrev pub lookupsOf : List ℕ → List Lookup
+lookupsOf ws = lookupsBy (readBook ws)
+
+-- the book reads, and these are its lookups' starts
+pub record Indexed (ws starts : List ℕ) (count : ℕ) : Type 0 where
+  pub reads : readBook ws ≡ Reads (lookupsOf ws)
+  pub is : indexOf ws ≡ record { reads = true; count = count; starts = starts }
+
+-- what a level that is done leaves
+pub record Chained (done coming : List ℕ) (r : Closed) (v : Stage) : Type 0 where
+  pub ran : Ran done coming (r .state) (v .run)
+  pub level : r .level ≡ shown (v .level)

@@ -1,0 +1,43 @@
+-- The glyph that was read is the cursor's; what isn't full has room. Assumes nothing.
+use mathlib.Core.Path.{sym, _∙_}
+use native.Mathlib.Omega.{arith}
+use lib.ListN.{length}
+use Rattle.text.specs.Laws.{sizes}
+use Rattle.text.specs.Changes.{room-for}
+use Rattle.steps.specs.Steps.{inside, many-off, many-full, many-on}
+use borrow.Author.Needs.{needs}
+use Rattle.steps.proofs.act_many.Statement.{statement}
+use Rattle.steps.proofs.act_many.Tie as tie
+
+read-requires : tie.Need-read-requires
+read-requires c κs = let s = c .before .before .before .before in let f = sizes (s .args .done .now) (s .args .coming .now) (s .args .s .place) (s .pre .0) in omega (arith, s .pre .1)
+
+returns : tie.Need-returns
+returns c = let s = c .before .before .before .before .before .before .before in let a = s .args in many-off (a .done .now) (a .coming .now) (a .s) (s .pre .0) (c .before .before .read .result) (c .before .before .read .ensures) (a .from) (a .ids .now) (c .if1 .taken)
+
+is-full-requires : tie.Need-is-full-requires
+is-full-requires c κs = search needs
+
+returns-2 : tie.Need-returns-2
+returns-2 c = let s = c .before .before .before .before .before .before .before .before .before in let a = s .args in many-full (a .done .now) (a .coming .now) (a .s) (s .pre .0) (c .before .before .before .before .read .result) (c .before .before .before .before .read .ensures) (a .from) (a .ids .now) (c .before .before .if1 .left) (sym (c .before .is-full .ensures) ∙ c .if2 .taken)
+
+replace-many-requires : tie.Need-replace-many-requires
+replace-many-requires c κs = let s = c .before .before .before .before .before .before .before .before .before .before in let a = s .args in (s .pre .0, inside (a .done .now) (a .coming .now) (a .s) (s .pre .0) (c .before .before .before .before .before .read .result) (c .before .before .before .before .before .read .ensures) (a .from) (s .pre .1), room-for (s .pre .0) (length (a .ids .now)) (sym (c .before .before .is-full .ensures) ∙ c .before .if2 .left))
+
+same-length : tie.Need-same-length
+same-length c = search needs
+
+returns-3 : tie.Need-returns-3
+returns-3 c = let s = c .before .before .before .before .before .before .before .before .before .before .before .before .before in let a = s .args in many-on (a .done .now) (a .coming .now) (a .s) (s .pre .0) (c .before .before .before .before .before .before .before .before .read .result) (c .before .before .before .before .before .before .before .before .read .ensures) (a .from) (a .ids .now) _ _ (c .before .before .before .before .before .before .if1 .left) (sym (c .before .before .before .before .before .is-full .ensures) ∙ c .before .before .before .before .if2 .left) (c .before .before .replace-many .ensures)
+
+pub act-many-spec : {M : Type 1} → statement M
+act-many-spec =
+    tie.close
+    (tie.spec
+    read-requires
+    returns
+    is-full-requires
+    returns-2
+    replace-many-requires
+    same-length
+    returns-3)

@@ -1,0 +1,4 @@
+pub mod State
+pub mod Steps
+pub mod Shifts
+pub mod Aims

@@ -1,0 +1,140 @@
+-- A run as the code keeps it: two rows, a state and a level in slots. What each step of the code makes of them, as a run over a text.
+use mathlib.Core.Path.{_≡_}
+use mathlib.Core.Bool.{Bool, true, false, cond, not, _&&_}
+use mathlib.Core.List.{List, [], _∷_}
+use Prim.Native.Nat.{ℕ, zero, suc, _+_, _-_, _≤_, _<_}
+use lib.Dec.{eqb, ltb}
+use lib.ListN.{length, getD}
+use Rattle.text.specs.Text.{Text, textOf, movedTo, replaced, Fits}
+use Rattle.book.specs.declared.Part.{Part}
+use Rattle.book.specs.declared.Entry.{Entry}
+use Rattle.book.specs.Book.{Record, Kind3, recordsOf}
+use Rattle.book.specs.Places.{partOf}
+use Rattle.runs.specs.declared.Ending.{Ending}
+use Rattle.runs.specs.declared.Ending.the-variants.{Finished, Short, Deep, Full}
+use Rattle.runs.specs.declared.Given.{Given}
+use Rattle.runs.specs.Repair.{Level}
+use Rattle.runs.specs.Run.{Run, Stage, Match, Matched, Unmatched, isOver, changed, when, isAt, multiplied, isDue, arrived, stopped, spending}
+use Rattle.runs.specs.Rises.{Sound}
+use Rattle.runs.specs.Chain.{chainMatch, inputAt, afterInput}
+use Rattle.matching.specs.declared.Lookup.{Lookup as Question}
+use Rattle.glyph.specs.Glyph.{blank}
+use Rattle.levels.specs.declared.Slots.{Slots}
+use Rattle.levels.specs.Slots.{levelOf, shown, Neat}
+use Rattle.steps.specs.declared.State.{State}
+use Rattle.steps.specs.declared.Ready.{Ready}
+use Rattle.steps.specs.declared.Aim.{Aim}
+
+-- refusal 12: an allowance over this
+abbrev pub mostAllowance : ℕ
+mostAllowance = 2147483647
+
+-- the run that two rows and a state hold
+abbrev pub runOf : List ℕ → List ℕ → State → Run
+runOf done coming s = record { text = textOf done coming (s .place); left = s .left; tries = s .spent; ending = s .ending }
+
+abbrev pub stageOf : List ℕ → List ℕ → State → Slots → Stage
+stageOf done coming s lv = record { level = levelOf lv; run = runOf done coming s }
+
+-- the rows and the state hold the run x
+pub record Ran (done coming : List ℕ) (s : State) (x : Run) : Type 0 where
+  pub fits : Fits done coming (s .place)
+  pub is : runOf done coming s ≡ x
+
+-- ---- a record
+
+-- `isDue` of what it looks at
+abbrev pub isDueAt : Level → Ending → ℕ → ℕ → Bool
+isDueAt lv e size seq =
+    lv .live && (not (isOver e) && (ltb seq (length (lv .positions)) && ltb (getD (lv .positions) seq 0) size))
+
+abbrev pub endedAs : Ending → State → State
+endedAs e s = record { place = s .place; left = s .left; spent = s .spent; ending = e }
+
+abbrev pub stoppedSlots : Slots → Slots
+stoppedSlots lv = record { live = false; end = lv .end; count = lv .count; at = lv .at }
+
+abbrev pub stoppedAs : Ending → State → Slots → Ready
+stoppedAs e s lv = record { go = false; state = endedAs e s; level = stoppedSlots lv }
+
+-- a due record that was reached, by the depth and the allowance that are left
+unfoldable pub judgedAt : ℕ → ℕ → State → Slots → Ready
+judgedAt depth zero s lv = stoppedAs Short s lv
+judgedAt zero (suc left) s lv = stoppedAs Deep s lv
+judgedAt (suc depth) (suc left) s lv =
+    record { go = true; state = record { place = s .place; left = left; spent = s .spent + 1; ending = s .ending }; level = lv }
+
+-- the same on a stage: whether the record's lookup is tried, and on what
+pub record Judgement : Type 0 where
+  pub go : Bool
+  pub stage : Stage
+
+unfoldable pub judged : ℕ → ℕ → Stage → Judgement
+judged depth zero v = record { go = false; stage = stopped Short v }
+judged zero (suc left) v = record { go = false; stage = stopped Deep v }
+judged (suc depth) (suc left) v = record { go = true; stage = record { level = v .level; run = spending left (v .run) } }
+
+abbrev pub readied : ℕ → Record → Stage → Judgement
+readied depth r v = cond (isDue r v) (judged depth (v .run .left) (arrived r v)) (record { go = false; stage = v })
+
+pub record Prepared (j : Judgement) (done coming : List ℕ) (r : Ready) : Type 0 where
+  pub go : r .go ≡ j .go
+  pub level : r .level ≡ shown (j .stage .level)
+  pub ran : Ran done coming (r .state) (j .stage .run)
+
+-- ---- a level's end
+
+unfoldable pub closedAt : ℕ → Run → Run
+closedAt end x = when (not (isOver (x .ending))) (changed (movedTo end)) x
+
+-- ---- a lookup
+
+abbrev pub oneOn : ℕ → ℕ → Run → Run
+oneOn from to x = when (isAt from x) (changed (replaced (to ∷ []))) x
+
+abbrev pub manyOn : ℕ → List ℕ → Run → Run
+manyOn from ids x = when (isAt from x) (multiplied ids) x
+
+-- kinds 1 and 2
+abbrev pub actedBy : List ℕ → Entry → Run → Run
+actedBy ws (Entry.One props from to) x = oneOn from to x
+actedBy ws (Entry.Many props from ids) x = manyOn from (partOf ws ids) x
+actedBy ws (Entry.Chain props first back input onward records) x = x
+actedBy ws Entry.Missing x = x
+
+-- no level
+abbrev pub noLevel : Level
+noLevel = record { live = false; positions = []; end = 0 }
+
+abbrev pub noAim : Aim
+noAim = record { hit = false; level = shown noLevel; records = record { from = 0; to = 0 } }
+
+abbrev pub aimAt : Part → Match → Aim
+aimAt records (Matched positions end) = record { hit = true; level = shown (record { live = true; positions = positions; end = end }); records = records }
+aimAt records Unmatched = noAim
+
+-- `chainMatch` of a chain's parts
+abbrev pub matchOn : Question → List ℕ → ℕ → List ℕ → List ℕ → List ℕ → Text → Match
+matchOn q sets first back input onward t =
+    cond (eqb (getD (t .glyphs) (t .cursor) blank .id) first) (afterInput q sets t back onward (inputAt q sets t input)) Unmatched
+
+-- kind 3
+abbrev pub aimedAt : Given → List ℕ → List ℕ → Entry → Text → Aim
+aimedAt given sets ws (Entry.Chain props first back input onward records) t =
+    aimAt records (chainMatch given sets (Kind3 props first (partOf ws back) (partOf ws input) (partOf ws onward) (recordsOf (partOf ws records))) t)
+aimedAt given sets ws (Entry.One props from to) t = noAim
+aimedAt given sets ws (Entry.Many props from ids) t = noAim
+aimedAt given sets ws Entry.Missing t = noAim
+
+-- ---- what a level's steps may count on
+
+-- the record with this sequence index; which lookup it names isn't looked at before it is tried
+abbrev pub at : ℕ → Record
+at seq = record { seq = seq; lookup = 0 }
+
+-- rows that hold a text, a level that is sound over it, and no more left and spent than an allowance
+pub record Able (done coming : List ℕ) (s : State) (lv : Slots) : Type 0 where
+  pub fits : Fits done coming (s .place)
+  pub few : s .left + s .spent ≤ mostAllowance
+  pub neat : Neat lv
+  pub sound : Sound 0 (length (textOf done coming (s .place) .glyphs)) (levelOf lv)
