@@ -4,7 +4,7 @@ use mathlib.Core.Path.{_≡_, refl}
 use Prim.Native.Nat.{ℕ}
 use Rattle.bits.specs.Bits.{every, some}
 use Rattle.digest.specs.Digest.{ranged}
-use Rattle.glyph.specs.Glyph.{blank}
+use Rattle.glyph.specs.Glyph.{blank, limit, glyphs, glyphsOf}
 use Rattle.glyph.specs.Sets.{inSet}
 use Rattle.verdict.specs.Matcher.{inputMatcher, contextMatcher, matcherOf}
 use Rattle.verdict.specs.Verdict.{skipYes, ignorable, skipOf, ruledOut, valueOf, matchOf, verdict}
@@ -13,6 +13,11 @@ use Rattle.matching.specs.Take.{takes, reached}
 use Rattle.ligature.specs.Ligature.{mayJoin, baseBefore, baseSkips}
 use Rattle.matching.specs.Matchers.{inputBy, inputOn, aheadOn, backOn}
 use Rattle.matching.specs.Answers.{ligated}
+use Rattle.glyph.specs.Write.{withId}
+use Rattle.book.specs.Book.{recordsOf, counted, bodyOf, firstOf, readLookups, readBook, lookupAt}
+use Rattle.runs.specs.Repair.{following, gained, lost, grownBy, shrunkBy, repaired}
+use Rattle.runs.specs.Run.{triedBy, recordsBy, closed, chainRun}
+use Rattle.nested.specs.Calls.{checkedFirst, checkedAll, risesTo}
 use Rattle.cards.specs.Card.{Card}
 use Rattle.cards.specs.Sums.{masksOf, bitsBelow}
 use Rattle.cards.specs.Cards.{cards}
@@ -25,7 +30,7 @@ abbrev pub wanted : Card → List (List ℕ)
 wanted c = c .wanted
 
 pub all-cards : map given cards ≡ map wanted cards
-unfolding every some ranged masksOf bitsBelow blank inSet inputMatcher contextMatcher matcherOf skipYes ignorable skipOf ruledOut valueOf matchOf verdict walk walkFrom takes reached mayJoin baseBefore baseSkips inputBy inputOn ligated
+unfolding every some ranged masksOf bitsBelow blank inSet inputMatcher contextMatcher matcherOf skipYes ignorable skipOf ruledOut valueOf matchOf verdict walk walkFrom takes reached mayJoin baseBefore baseSkips inputBy inputOn ligated limit glyphs glyphsOf withId recordsOf counted bodyOf firstOf readLookups readBook lookupAt following gained lost grownBy shrunkBy repaired triedBy recordsBy closed chainRun checkedFirst checkedAll risesTo
 all-cards = refl
 
 pub all-examples : map given examples ≡ map wanted examples

@@ -1,6 +1,7 @@
 pub mod Card
 pub mod Matches
 pub mod Sums
+pub mod Runs
 pub mod Cards
 pub mod Examples
 pub mod Check

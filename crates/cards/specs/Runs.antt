@@ -1,0 +1,59 @@
+-- Cards K11 to K14: runs of one record over three glyphs that end the row. Each answer is its number, the text's ids, the positions, and d with the
+-- number spent.
+use mathlib.Core.Bool.{false}
+use mathlib.Core.List.{List, [], _∷_, _++_, map}
+use Prim.Native.Nat.{ℕ, _+_}
+use lib.ListN.{length, replicate}
+use Rattle.glyph.specs.declared.Glyph.{Glyph}
+use Rattle.matching.specs.declared.InputAnswer.{InputAnswer}
+use Rattle.matching.specs.declared.InputMatch.{InputMatch}
+use Rattle.matching.specs.Answers.{slotted}
+use Rattle.runs.specs.Run.{Stage}
+use Rattle.nested.specs.declared.Checked.{Checked}
+use Rattle.nested.specs.Calls.{checkedAll, runSays, endingNumber, refusalNumber}
+use Rattle.cards.specs.Card.{Card}
+
+-- a glyph's words
+abbrev sign : ℕ → List ℕ
+sign id = id ∷ 1 ∷ 0 ∷ 257 ∷ []
+
+abbrev empty : List ℕ
+empty = replicate 4096 0
+
+-- three glyphs that end the row
+abbrev three : List ℕ
+three = replicate 4084 0 ++ (sign 1 ++ sign 2 ++ sign 3)
+
+abbrev matched : InputMatch
+matched = record { answer = InputAnswer.Matched 1024 3; count = 3; positions = slotted (1021 ∷ 1022 ∷ 1023 ∷ []) }
+
+-- one lookup of kind 2, which turns 2 into these ids
+abbrev turning : List ℕ → List ℕ
+turning ids = 2 ∷ 0 ∷ 0 ∷ (2 + length ids) ∷ 2 ∷ length ids ∷ ids
+
+abbrev shows : Checked → Stage → List (List ℕ)
+shows (Checked.Refused why) v = (refusalNumber why ∷ []) ∷ []
+shows Checked.Accepted v =
+    (endingNumber (v .run .ending) ∷ []) ∷ map (λ (g : Glyph). g .id) (v .run .text .glyphs) ∷ v .level .positions ∷ (v .run .text .cursor ∷ v .run .tries ∷ []) ∷ []
+
+-- record (1, 0) over ids 1, 2, 3, matched whole
+abbrev ran : List ℕ → ℕ → ℕ → List (List ℕ)
+ran ids allowance depth =
+    shows (checkedAll empty three (record { d = 0; idx = 1021 }) [] (turning ids) (1 ∷ 0 ∷ []) matched allowance depth)
+    (runSays empty three (record { d = 0; idx = 1021 }) [] (turning ids) (1 ∷ 0 ∷ []) matched (record { zwnj = false; zwj = false; syllables = false; mask = 1 }) allowance depth)
+
+abbrev pub k11 : Card
+k11 = record { given = ran (2 ∷ 2 ∷ []) 1 1; wanted = (0 ∷ []) ∷ (1 ∷ 2 ∷ 2 ∷ 3 ∷ []) ∷ (0 ∷ 1 ∷ 2 ∷ 3 ∷ []) ∷ (4 ∷ 1 ∷ []) ∷ [] }
+
+abbrev pub k12 : Card
+k12 = record { given = ran (2 ∷ 2 ∷ []) 0 1; wanted = (8 ∷ []) ∷ (1 ∷ 2 ∷ 3 ∷ []) ∷ (0 ∷ 1 ∷ 2 ∷ []) ∷ (3 ∷ 0 ∷ []) ∷ [] }
+
+abbrev pub k13 : Card
+k13 = record { given = ran [] 1 1; wanted = (0 ∷ []) ∷ (1 ∷ 3 ∷ []) ∷ (0 ∷ 1 ∷ []) ∷ (2 ∷ 1 ∷ []) ∷ [] }
+
+-- K14: depth 0 is Deep, and stays at the record's position; allowance 0 too is Short
+abbrev pub k14 : Card
+k14 = record { given = ran (2 ∷ 2 ∷ []) 1 0; wanted = (9 ∷ []) ∷ (1 ∷ 2 ∷ 3 ∷ []) ∷ (0 ∷ 1 ∷ 2 ∷ []) ∷ (1 ∷ 0 ∷ []) ∷ [] }
+
+abbrev pub k14-too : Card
+k14-too = record { given = ran (2 ∷ 2 ∷ []) 0 0; wanted = (8 ∷ []) ∷ (1 ∷ 2 ∷ 3 ∷ []) ∷ (0 ∷ 1 ∷ 2 ∷ []) ∷ (3 ∷ 0 ∷ []) ∷ [] }
