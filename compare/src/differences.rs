@@ -4,7 +4,9 @@
 //! said here.
 use crate::matches::{plain, Case, Question};
 use crate::ours::{Answer, CSaid, CWalked, Row, Sign};
+use crate::runs;
 use original::glyphs::Glyph;
+use original::hook::Mode;
 use original::matches::with_written_text;
 use original::terms::{Call, Role, Setup, Test, Testing};
 use original::walks::{with_ordinary_row, with_row};
@@ -33,7 +35,7 @@ enum Ask {
 }
 use Ask::{Glyphs, Match, Unchecked};
 
-pub const EXPECTED: [&Difference; 10] = [
+pub const EXPECTED: [&Difference; 15] = [
     &SUBSTITUTED_IGNORABLE,
     &JOINERS_OF_ANY_CATEGORY,
     &DAMAGED_WALKS,
@@ -44,7 +46,110 @@ pub const EXPECTED: [&Difference; 10] = [
     &DAMAGED_MATCHES,
     &MULTIPLIED,
     &NARROW_NUMBERS,
+    &WRITTEN_PROPS,
+    &WRITTEN_LIGATURES,
+    &ALLOWANCE_OF_TRIES,
+    &FULL,
+    &DAMAGED_RUNS,
 ];
+
+pub const WRITTEN_PROPS: Difference = Difference {
+    heading: "What a run writes keeps its props and ligature numbers",
+    examples: &[Example {
+        input: "run over ids 5, 9, 7, 9 default ignorable: 9 into 8, then where 5, 7 stand 5 into 6; nothing put back",
+        original: "0, spent 2, positions [0, 1, 2], [5, 8, 7] and []",
+        ours: "0, spent 3, positions [0, 1, 2], [6, 8, 7] and []",
+        ask: Glyphs(|| runs::both(&nested([1, 9, 8], 0, 0x0100_0000), Mode::Loud)),
+    }],
+};
+
+pub const WRITTEN_LIGATURES: Difference = Difference {
+    heading: "Kind 2 on a ligature writes ligatures",
+    examples: &[Example {
+        input: "run over ids 5, 9, 7, 9 a ligature: 9 into 8, 8, then where 5, 7 stand 5 into 6, ligatures ignored; nothing put back",
+        original: "0, spent 2, positions [0, 1, 2, 3], [5, 8, 8, 7] and []",
+        ours: "0, spent 3, positions [0, 1, 2, 3], [6, 8, 8, 7] and []",
+        ask: Glyphs(|| runs::both(&nested([2, 9, 8], 4, 4), Mode::Loud)),
+    }],
+};
+
+pub const ALLOWANCE_OF_TRIES: Difference = Difference {
+    heading: "An allowance pays for tries alone, and Short is an ending",
+    examples: &[
+        Example {
+            input: "K11 without the hook, the allowance as max_ops, which moves take from",
+            original: "1, spent 0, positions [0, 1, 2], [1] and [2, 3]",
+            ours: "0, spent 1, positions [0, 1, 2, 3], [1, 2, 2, 3] and []",
+            ask: Glyphs(|| runs::both(&growing(&[1, 2, 3], &[1, 0], 1), Mode::Raw)),
+        },
+        Example {
+            input: "K12 without the hook",
+            original: "1, spent 0, positions [0, 1, 2], [] and [1, 2, 3]",
+            ours: "8, spent 0, positions [0, 1, 2], [1, 2, 3] and []",
+            ask: Glyphs(|| runs::both(&growing(&[1, 2, 3], &[1, 0], 0), Mode::Raw)),
+        },
+    ],
+};
+
+pub const FULL: Difference = Difference {
+    heading: "A text never passes 1,024 glyphs",
+    examples: &[Example {
+        input: "run over 1,024 glyphs of which one grows, without the hook",
+        original: "0, spent 1, positions [0, 1, 2, 3], 1025 glyphs, 4 done",
+        ours: "10, spent 1, positions [0, 1, 2], 1024 glyphs, 1 done",
+        ask: Glyphs(|| {
+            let ids = [&[1, 2, 3][..], &[3; 1021]].concat();
+            runs::both(&growing(&ids, &[1, 0], 1000), Mode::Raw)
+        }),
+    }],
+};
+
+pub const DAMAGED_RUNS: Difference = Difference {
+    heading: "A damaged run is refused",
+    examples: &[
+        Example {
+            input: "K11 with a match whose first position is the second glyph",
+            original: "0, spent 1, positions [1, 2], [1, 2, 3] and []",
+            ours: "7",
+            ask: Glyphs(|| {
+                let mut case = growing(&[1, 2, 3], &[1, 0], 1);
+                case.matched.count = 2;
+                case.matched.positions.copy_within(1..3, 0);
+                runs::both(&case, Mode::Hooked)
+            }),
+        },
+        Example {
+            input: "17 records, each of a lookup that isn't there",
+            original: "0, spent 17, positions [0, 1, 2], [1, 2, 3] and []",
+            ours: "1",
+            ask: Glyphs(|| runs::both(&growing(&[1, 2, 3], &[0, 9].repeat(17), 99), Mode::Hooked)),
+        },
+    ],
+};
+
+/// Ids 5, 9 and 7, 9 with a word 2, matched whole. Lookup 0 is of a kind: from,
+/// to (kind 2: twice); 1 a chain over 5, 7 with these props; 2 turns 5 into 6.
+fn nested([kind, from, to]: [u16; 3], props: u16, word2: u32) -> runs::Case {
+    let first = match kind {
+        1 => vec![1, 0, 0, 2, from, to],
+        _ => vec![2, 0, 0, 4, from, 2, to, to],
+    };
+    let chain = [3, props, 0, 8, 5, 0, 1, 7, 0, 1, 0, 2];
+    let book = [&first[..], &chain, &[1, 0, 0, 2, 5, 6]].concat();
+    let text = [[5, 1, 0, 0x101], [9, 1, word2, 0x101], [7, 1, 0, 0x101]];
+    let case =
+        runs::Case::new(plain(false, 0), book, [&[], &text], vec![1, 0, 0, 1], &[0, 1, 2], 3);
+    runs::Case { allowance: 100, depth: 4, ..case }
+}
+
+/// The first three glyphs matched; lookup 0 turns 2 into 2, 2.
+fn growing(ids: &[u32], records: &[u16], allowance: u32) -> runs::Case {
+    let text: Vec<Glyph> = ids.iter().map(|&id| [id, 1, 0, 0x101]).collect();
+    let book = vec![2, 0, 0, 4, 2, 2, 2, 2];
+    let records = records.to_vec();
+    let case = runs::Case::new(plain(false, 0), book, [&[], &text], records, &[0, 1, 2], 3);
+    runs::Case { allowance, depth: 1, ..case }
+}
 
 pub const SUBSTITUTED_IGNORABLE: Difference = Difference {
     heading: "A substituted glyph stays default ignorable",

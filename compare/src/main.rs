@@ -13,8 +13,10 @@ mod matches;
 mod ours;
 mod paper;
 mod random;
+mod runs;
 mod store;
 mod summary;
+mod tape;
 mod timing;
 mod walks;
 
@@ -23,10 +25,12 @@ use std::process::exit;
 use summary::Summary;
 
 const USAGE: &str = "\
-compare/run [KIND ...] [--steps N] [--seed S]   compare: digests, allowances, walks, matches (default: all)
-compare/run store KIND FILE                     write a stored list of the original's answers: small, walks, matches
+compare/run [KIND ...] [--steps N] [--seed S]   compare: digests, allowances, walks, matches, runs (default: all)
+compare/run tape [--steps N] [--seed S]         compare the bench tape, our program as a process
+compare/run tape-timing                         how long 200,000 frames take, both sides
+compare/run store KIND FILE                     write a stored list of the original's answers: small, walks, matches, runs
 compare/run store differences FILE              write our answers to the matchers' expected differences
-compare/run timing [--rounds N]                 how long walks and matches take, the original's and ours
+compare/run timing [--rounds N]                 how long walks, matches and runs take, the original's and ours
 compare/run differences                         the headings of the expected differences";
 
 const STEPS: u64 = 1_000_000;
@@ -40,6 +44,7 @@ const KINDS: &[Kind] = &[
     ("allowances", allowances::compare),
     ("walks", walks::compare),
     ("matches", matches::compare),
+    ("runs", runs::compare),
 ];
 
 #[no_mangle]
@@ -51,13 +56,24 @@ extern "C" fn main() -> i32 {
         ["differences"] => differences::print(),
         ["timing"] => timing::run(ROUNDS, &place()),
         ["timing", "--rounds", rounds] => timing::run(number(Some(&rounds)) as u32, &place()),
+        ["tape-frames", ref rest @ ..] => {
+            let (steps, seed, _) = options(rest);
+            tape::frames(steps, seed)
+        }
+        ["tape-answers", ref rest @ ..] => {
+            let (steps, seed, _) = options(rest);
+            let summary = tape::answers(steps, seed);
+            summary.print("tape", seed);
+            i32::from(summary.unexplained() > 0)
+        }
+        ["tape-mixed", count] => tape::mixed(number(Some(&count)), SEED),
+        ["tape-original"] => tape::original(),
         _ => compare(&words),
     }
 }
 
-/// Answers the status to exit with: 1 if something disagreed that no entry of
-/// docs/DIFFERENCES.md explains.
-fn compare(words: &[&str]) -> i32 {
+/// How many steps, the seed and the kinds that are named.
+fn options(words: &[&str]) -> (u64, u64, Vec<&'static Kind>) {
     let (mut steps, mut seed, mut kinds) = (STEPS, SEED, vec![]);
     let mut words = words.iter();
     while let Some(&word) = words.next() {
@@ -70,6 +86,13 @@ fn compare(words: &[&str]) -> i32 {
             },
         }
     }
+    (steps, seed, kinds)
+}
+
+/// Answers the status to exit with: 1 if something disagreed that no entry of
+/// docs/DIFFERENCES.md explains.
+fn compare(words: &[&str]) -> i32 {
+    let (steps, seed, mut kinds) = options(words);
     if kinds.is_empty() {
         kinds.extend(KINDS);
     }

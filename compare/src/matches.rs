@@ -206,7 +206,7 @@ impl Asker {
 }
 
 /// The original's answer; with the paper's total where it has none.
-fn beside(call: Call, original: Matched, expected: Answer) -> Answer {
+pub fn beside(call: Call, original: Matched, expected: Answer) -> Answer {
     let unknown = matches!(original, Matched::Input { total: None, .. });
     let mut told = Answer::of(call, &Ok(original));
     if let (true, Answer::Input(told), Answer::Input(expected)) = (unknown, &mut told, expected) {
@@ -216,7 +216,7 @@ fn beside(call: Call, original: Matched, expected: Answer) -> Answer {
 }
 
 /// Whether the only difference is that the original's total has eight bits.
-fn wrapped(original: Answer, ours: Answer) -> bool {
+pub fn wrapped(original: Answer, ours: Answer) -> bool {
     match (original, ours) {
         (Answer::Input(original), Answer::Input(ours)) => {
             let total = ours.total & 0xFF;
@@ -463,7 +463,7 @@ pub fn calm_case(random: &mut Random, [before, after]: [usize; 2]) -> Case {
 }
 
 /// Any words.
-fn wild_case(random: &mut Random, [before, after]: [usize; 2]) -> Case {
+pub fn wild_case(random: &mut Random, [before, after]: [usize; 2]) -> Case {
     let (done, coming) = (draw::row(random, before), draw::row(random, after));
     let idx = cursor(random, after);
     let case = Case::new(draw::setup(random), done, coming, idx);

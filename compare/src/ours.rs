@@ -1,5 +1,6 @@
 //! The proved library's calls, as C sees them, and safe covers for them.
 use crate::paper::matchers::Text;
+use crate::runs::Case;
 use original::terms::{Call, Matched, May, Role, Setup, Test, Testing, Verdict, Walked};
 
 #[repr(C)]
@@ -546,4 +547,129 @@ pub fn match_lookahead(text: &Text, start: usize, test: u8, values: &[u32]) -> C
 
 pub fn match_backtrack(text: &Text, test: u8, values: &[u32]) -> CPlaced {
     call!(cb_match_backtrack, [], text, [], test, values)
+}
+
+// ---- runs
+
+#[repr(C)]
+#[derive(Clone, Copy)]
+struct CSwitches {
+    zwnj: bool,
+    zwj: bool,
+    syllables: bool,
+    mask: u32,
+}
+
+/// A run's answer as it is handed over: 0 Finished, 8 Short, 9 Deep, 10 Full, or
+/// a refusal's number with everything else 0. Every field and slot is compared.
+#[repr(C)]
+#[derive(Clone, Copy, PartialEq, Eq)]
+pub struct CRan {
+    pub number: u8,
+    pub spent: u32,
+    pub d: usize,
+    pub idx: usize,
+    pub count: usize,
+    pub positions: [u16; 64],
+}
+
+impl CRan {
+    pub const NOTHING: Self =
+        Self { number: 0, spent: 0, d: 0, idx: 0, count: 0, positions: [0; 64] };
+}
+
+impl std::fmt::Debug for CRan {
+    /// Of the slots, those up to the last that isn't 0, or up to the count.
+    fn fmt(&self, f: &mut std::fmt::Formatter) -> std::fmt::Result {
+        let Self { number, spent, d, idx, count, positions } = self;
+        let used = positions.iter().rposition(|&slot| slot != 0).map_or(0, |i| i + 1);
+        let slots = &positions[..used.max((*count).min(64))];
+        write!(f, "{number}, spent {spent}, d {d}, idx {idx}, count {count}, {slots:?}")
+    }
+}
+
+/// The arguments of a run, with what goes before and after them.
+macro_rules! run {
+    ($($answer:ident: $type:ty,)? => $out:ty) => {
+        fn cb_run(
+            $($answer: $type,)?
+            done: *mut u32,
+            done_words: usize,
+            coming: *mut u32,
+            coming_words: usize,
+            d: usize,
+            idx: usize,
+            sets: *const u16,
+            n: usize,
+            book: *const u16,
+            book_words: usize,
+            records: *const u16,
+            record_words: usize,
+            matched: Handed<CMatched>,
+            switches: Handed<CSwitches>,
+            allowance: u32,
+            depth: usize,
+        ) -> $out;
+    };
+}
+
+// As with the input matcher, the answer's place goes before the arguments.
+#[cfg(target_arch = "x86_64")]
+extern "C" {
+    run!(=> CRan);
+}
+#[cfg(not(target_arch = "x86_64"))]
+extern "C" {
+    run!(answer: *mut CRan, => *mut CRan);
+}
+extern "C" {
+    fn cb_book_reads(book: *const u16, words: usize) -> bool;
+}
+
+pub fn book_reads(book: &[u16]) -> bool {
+    unsafe { cb_book_reads(book.as_ptr(), book.len()) }
+}
+
+/// Runs over the rows that are lent.
+pub fn run(case: &Case, done: &mut [u32], coming: &mut [u32]) -> CRan {
+    let Case { setup, book, records, matched, allowance, depth, d, idx, .. } = case;
+    let switches = CSwitches {
+        zwnj: setup.auto_zwnj,
+        zwj: setup.auto_zwj,
+        syllables: setup.per_syllable,
+        mask: setup.mask,
+    };
+    macro_rules! call {
+        ($($answer:expr)?) => {
+            unsafe {
+                cb_run(
+                    $($answer,)?
+                    done.as_mut_ptr(),
+                    done.len(),
+                    coming.as_mut_ptr(),
+                    coming.len(),
+                    *d,
+                    *idx,
+                    setup.sets.as_ptr(),
+                    setup.sets.len(),
+                    book.as_ptr(),
+                    book.len(),
+                    records.as_ptr(),
+                    records.len(),
+                    hand(matched),
+                    hand(&switches),
+                    *allowance,
+                    *depth,
+                )
+            }
+        };
+    }
+    #[cfg(target_arch = "x86_64")]
+    return call!();
+    #[cfg(not(target_arch = "x86_64"))]
+    {
+        let mut answer = CRan { number: u8::MAX, ..CRan::NOTHING };
+        call!(&mut answer);
+        answer
+    }
 }

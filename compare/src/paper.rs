@@ -2,6 +2,7 @@
 //! sentences alone. What the original can't be asked is compared with it:
 //! refusals, and words that it can't hold. It also says which sentence decided.
 pub mod matchers;
+pub mod runs;
 
 use original::terms::{May, Role, Setup, Test, Verdict, Walked};
 

@@ -8,6 +8,7 @@
 //! first. A line is the operation's code, the arguments, and the original's
 //! answer; each kind's file opens with what its lines hold.
 mod matches;
+mod runs;
 mod small;
 mod walks;
 
@@ -21,6 +22,7 @@ const KINDS: &[(&str, fn(&mut List))] = &[
     ("small", small::write),
     ("walks", walks::write),
     ("matches", matches::write),
+    ("runs", runs::write),
     ("differences", matches::write_differences),
 ];
 

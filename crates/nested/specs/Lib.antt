@@ -3,3 +3,4 @@ pub mod Cycle
 pub mod Turns
 pub mod Calls
 pub mod CallLaws
+pub mod Decided

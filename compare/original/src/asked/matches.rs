@@ -68,7 +68,7 @@ fn with_infos<R>(
     ask: impl FnOnce(&mut Held) -> R,
 ) -> R {
     let setup = text.setup;
-    let ot = OtData { lookups: LookupCache::EMPTY, mark_sets: &setup.sets };
+    let ot = OtData { lookups: LookupCache::EMPTY, missing: None, mark_sets: &setup.sets };
     let mut buffer = Buffer::new();
     let room = done.len().max(coming.len());
     if !setup.gpos {

@@ -3,6 +3,8 @@
 pub mod allowances;
 pub mod digests;
 pub mod glyphs;
+pub mod hook;
 pub mod matches;
+pub mod runs;
 pub mod terms;
 pub mod walks;

@@ -57,7 +57,7 @@ fn with_infos<R>(
     syllable: u8,
     ask: impl FnOnce(&mut Row) -> R,
 ) -> R {
-    let ot = OtData { lookups: LookupCache::EMPTY, mark_sets: &setup.sets };
+    let ot = OtData { lookups: LookupCache::EMPTY, missing: None, mark_sets: &setup.sets };
     let mut buffer = Buffer::new();
     buffer.len = len;
     buffer.idx = infos.len();

@@ -10,7 +10,7 @@ pub mod map;
 use crate::buffer::{self, GlyphInfo};
 use crate::{set_digest, Mask};
 use layout::LayoutTableKind;
-use lookup::{CachedLookup, LookupCache};
+use lookup::{CachedLookup, CachedLookupRef, LookupCache};
 use read_fonts::types::GlyphId;
 
 /// The lookup flags of the OpenType specification.
@@ -22,13 +22,16 @@ pub mod lookup_flags {
 
 pub struct OtData<'a> {
     pub(crate) lookups: LookupCache,
+    /// Answers for an index that isn't in the book, so that its try is seen.
+    pub(crate) missing: Option<CachedLookupRef>,
     /// Pairs (set, glyph), as the port is handed them.
     pub mark_sets: &'a [u16],
 }
 
 impl OtData<'_> {
     pub fn lookup(&self, _: LayoutTableKind, index: u16) -> Option<&CachedLookup<'_>> {
-        self.lookups.get(index)
+        let missing = self.missing.as_ref().map(|lookup| lookup.get());
+        self.lookups.get(index).or(missing.map(|lookup| lookup as &CachedLookup<'_>))
     }
 
     pub fn is_mark_glyph(&self, glyph: u32, set: u16) -> bool {

@@ -1,6 +1,6 @@
 //! Stand-in for ot/lookup/build.rs: makes cached lookups from a book whose
 //! subtables are OpenType bytes. Kinds: 1 single, 2 multiple, 3 chain by
-//! glyphs.
+//! glyphs; 0 stands for an index that isn't in the book.
 use super::*;
 use read_fonts::tables::{gsub as g, layout as l};
 use read_fonts::ReadError;
@@ -18,6 +18,19 @@ pub fn build_lookup<'a>(
     let (props, kind, bytes) = &tables.0[usize::from(index)];
     let data = FontData::new(bytes);
     let subtable = match kind {
+        0 => {
+            return Ok(CachedLookup {
+                props: *props,
+                is_subst,
+                is_reversed: false,
+                digest: SetDigest::new(),
+                digest_second: SetDigest::full(),
+                hot_subtable: None,
+                uses_class_cache: false,
+                walk: hooked_walk,
+                subtables: vec![],
+            })
+        }
         1 => subtable(gsub::SingleSubst2::new(&g::SingleSubstFormat2(data)), data, budget)?,
         2 => subtable(gsub::MultipleSubst1::new(&g::MultipleSubstFormat1(data)), data, budget)?,
         3 => subtable(
@@ -35,7 +48,7 @@ pub fn build_lookup<'a>(
         digest_second: SetDigest::full(),
         hot_subtable: None,
         uses_class_cache: false,
-        walk: walk_single,
+        walk: hooked_walk,
         subtables: vec![subtable],
     })
 }
@@ -68,4 +81,12 @@ fn subtable<'a, T: IntoKind<'a>>(
         fns: T::FNS,
         apply_sharing: T::FNS.apply_sharing,
     })
+}
+
+/// The crate's own walk over one subtable, between the hooks.
+fn hooked_walk(lookup: &CachedLookup, ctx: &mut ApplyContext, hot: bool) -> Option<()> {
+    let before = crate::asked::hook::before(ctx)?;
+    let applied = walk_single(lookup, ctx, hot);
+    crate::asked::hook::after(ctx, before, applied.is_some());
+    applied
 }

@@ -1,0 +1,173 @@
+//! Runs of records over a text. All numbers are one word.
+//!
+//!     50 zwnj zwj syllables mask allowance depth idx end total
+//!        positions sets book records done coming
+//!        number spent d idx count positions done coming
+//!
+//! The six in the second line are lists, each a number of words and those words:
+//! places in the row that comes, pairs of mark sets, the book, pairs of records,
+//! the words of what is done and of what comes from the cursor on. So d is a
+//! quarter of the fifth number and idx 1,024 less a quarter of the sixth. The
+//! third line is the answer: 0, 8, 9 or 10; as many positions as the count says;
+//! and the text after the run, as two such lists.
+//!
+//! The answers are the original's behind its hooks, on which Short and Full rest
+//! (original/src/asked/hook.rs). Nothing is refused here, and every text is one
+//! that the original can hold.
+use super::{Line, List};
+use crate::paper::runs::{By, NAMES};
+use crate::random::Random;
+use crate::runs::{draw_book, draw_case, draw_setup, style, Case, Style};
+use original::glyphs::Glyph;
+use original::hook::Mode;
+use original::runs::Book;
+use original::terms::Setup;
+
+const SEED: u64 = 6;
+const ENOUGH: usize = 985_000;
+/// The longest line of those that are drawn, and of those that fill the list.
+const LONGEST: usize = 1_500;
+const SHORT: usize = 260;
+/// A clause that has decided in fewer lines than this is worth another line.
+const OFTEN: u64 = 25;
+
+struct Writer<'l> {
+    list: &'l mut List,
+    by: Vec<u64>,
+}
+
+pub fn write(list: &mut List) {
+    let random = &mut Random::new(SEED);
+    let mut writer = Writer { list, by: vec![0; NAMES.len()] };
+    for case in cards().into_iter().chain(at_the_limit()) {
+        assert!(writer.push(&case, |_, _| true), "a card is asked");
+    }
+    let rare = By::Finished as usize..By::Refused1 as usize;
+    for draws in 0.. {
+        let seldom = rare.clone().any(|why| writer.by[why] < OFTEN) && draws < 150_000;
+        if writer.list.text.len() > ENOUGH - 9 * LONGEST {
+            break;
+        }
+        draw(&mut writer, random, seldom);
+    }
+    println!("decided by, in lines of the list");
+    for (name, times) in NAMES.iter().zip(writer.by).filter(|entry| entry.1 > 0) {
+        println!("  {times:>9}  {name}");
+    }
+}
+
+/// Draws a book and texts. While clauses are seldom met, only a run that meets
+/// one of them is written; then short ones.
+fn draw(writer: &mut Writer, random: &mut Random, seldom: bool) {
+    let setup = draw_setup(random);
+    let style = Style { lookups: 2 + random.below(5), ..style(random) };
+    let words = draw_book(random, &style);
+    for _ in 0..4 {
+        let mut case = draw_case(random, &setup, style.few, style.lookups, &words);
+        case.depth = random.pick(&[0, 1, 2, 3, 4, 5, 6, 8]);
+        case.allowance = 40;
+        let spent = case.paper(|_| ()).map_or(0, |ran| ran.spent);
+        case.allowance = match random.below(4) {
+            0 => spent,
+            1 => spent.saturating_sub(1),
+            2 => random.up_to(spent.into()) as u32,
+            _ => 40,
+        };
+        writer.push(&case, |by, line| match seldom {
+            true => by.iter().any(|&(why, before)| match line {
+                _ if why >= By::Refused1 as usize => false,
+                0..=SHORT => before < OFTEN,
+                ..=LONGEST => before < 4,
+                _ => false,
+            }),
+            false => line <= SHORT,
+        });
+    }
+}
+
+impl Writer<'_> {
+    /// Writes the original's answer if `wanted` says so of what decided, each with
+    /// how often it has, and of the number of words.
+    fn push(&mut self, case: &Case, wanted: impl FnOnce(&[(usize, u64)], usize) -> bool) -> bool {
+        let mut decided = vec![];
+        if case.paper(|by| decided.push(by as usize)).is_err() {
+            return false;
+        }
+        decided.sort_unstable();
+        decided.dedup();
+        let by: Vec<(usize, u64)> = decided.iter().map(|&why| (why, self.by[why])).collect();
+        let glyphs = case.d + (1024 - case.idx);
+        let about = 40 + case.book.len() + case.records.len() + case.matched.count + 8 * glyphs;
+        if !wanted(&by, about) {
+            return false;
+        }
+        let book = Book::new(&case.setup, &case.book);
+        let Some((ran, _)) = case.original(&book, Mode::Hooked) else {
+            return false;
+        };
+        decided.iter().for_each(|&why| self.by[why] += 1);
+        let wide = |words: &[u16]| -> Vec<u32> { words.iter().map(|&word| word.into()).collect() };
+        let setup = &case.setup;
+        let line = Line::of(50)
+            .word(setup.auto_zwnj)
+            .word(setup.auto_zwj)
+            .word(setup.per_syllable)
+            .words(&[setup.mask, case.allowance, case.depth as u32])
+            .words(&[case.idx as u32, case.matched.end as u32, case.matched.total.into()])
+            .list(&wide(&case.matched.positions[..case.matched.count]))
+            .list(&wide(&setup.sets))
+            .list(&wide(&case.book))
+            .list(&wide(&case.records))
+            .list(&case.done[..4 * case.d])
+            .list(&case.coming[4 * case.idx..])
+            .word(ran.ending)
+            .words(&[ran.spent as u32, ran.done.len() as u32, ran.idx as u32])
+            .list(&ran.positions)
+            .list(ran.done.as_flattened())
+            .list(ran.coming.as_flattened());
+        self.list.push(line);
+        true
+    }
+}
+
+fn plain() -> Setup {
+    Setup { mask: 1, ..Setup::default() }
+}
+
+fn glyphs(ids: &[u32]) -> Vec<Glyph> {
+    ids.iter().map(|&id| [id, 1, 0, 0x0101]).collect()
+}
+
+/// K11 to K14.
+fn cards() -> Vec<Case> {
+    let grows = [2, 0, 0, 4, 2, 2, 2, 2];
+    let deletes = [2, 0, 0, 2, 2, 0];
+    let card = |book: &[u16], allowance, depth| {
+        let text = glyphs(&[1, 2, 3]);
+        let case = Case::new(plain(), book.to_vec(), [&[], &text], vec![1, 0], &[0, 1, 2], 3);
+        Case { allowance, depth, ..case }
+    };
+    vec![
+        card(&grows, 1, 1),
+        card(&grows, 0, 1),
+        card(&deletes, 1, 1),
+        card(&grows, 1, 0),
+        card(&grows, 0, 0),
+    ]
+}
+
+/// Texts that grow to 1,024 glyphs exactly and no further: Full at the top, and
+/// Full below, after which positions are still repaired.
+fn at_the_limit() -> Vec<Case> {
+    // 0: 2 into 2, 2. 1: 2, 1 with records (0, 0), (0, 0), (0, 0).
+    let book = [2, 0, 0, 4, 2, 2, 2, 2, 3, 0, 0, 12, 2, 0, 1, 1, 0, 3, 0, 0, 0, 0, 0, 0];
+    let mut book = book.to_vec();
+    book[11] = (book.len() - 12) as u16;
+    let text = |length: usize| glyphs(&[vec![2], vec![1; length - 1]].concat());
+    let whole = text(1023);
+    let top =
+        Case::new(plain(), book.clone(), [&[], &whole], vec![0, 0, 0, 0, 0, 0], &[0, 1, 3], 5);
+    let lower = text(1022);
+    let below = Case::new(plain(), book, [&lower[..0], &lower], vec![0, 1, 1, 0], &[0, 1, 3], 5);
+    [top, below].into_iter().map(|case| Case { allowance: 9, depth: 3, ..case }).collect()
+}
