@@ -76,7 +76,8 @@ fn judge(s: State, lv: Slots, depth: usize) -> Ready
     requires { ⌜ s .left + s .spent ≤ mostAllowance ⌝ }
     ensures { λ r. ⌜ r ≡ judgedAt depth (s .left) s lv ⌝ }
 {
-    if s.left == 0 {
+    let left = s.left;
+    if left == 0 {
         return stop(s, lv, Ending::Short);
     }
     if depth == 0 {
@@ -88,7 +89,7 @@ fn judge(s: State, lv: Slots, depth: usize) -> Ready
         go: true,
         state: State {
             place,
-            left: s.left - 1,
+            left: left - 1,
             spent: s.spent + 1,
             ending,
         },

@@ -9,23 +9,23 @@ stop-requires : tie.Need-stop-requires
 stop-requires c κs = search needs
 
 returns : tie.Need-returns
-returns c = let a = c .before .before .before .args in c .stop .ensures ∙ judge-short (a .depth) (a .s) (a .lv) (c .before .if1 .taken)
+returns c = let a = c .before .before .args in c .stop .ensures ∙ judge-short (a .depth) (a .s) (a .lv) (c .before .if1 .taken)
 
 stop-requires-2 : tie.Need-stop-requires-2
 stop-requires-2 c κs = search needs
 
 returns-2 : tie.Need-returns-2
-returns-2 c = let a = c .before .before .before .before .args in c .stop2 .ensures ∙ judge-deep (a .depth) (a .s) (a .lv) (c .before .before .if1 .left) (c .before .if2 .taken)
+returns-2 c = let a = c .before .before .before .args in c .stop2 .ensures ∙ judge-deep (a .depth) (a .s) (a .lv) (c .before .before .if1 .left) (c .before .if2 .taken)
 
-sub-t9 : tie.Need-sub-t9
-sub-t9 c = search needs
+sub-t10 : tie.Need-sub-t10
+sub-t10 c = search needs
 
-add-t10 : tie.Need-add-t10
-add-t10 c = search needs
+add-t11 : tie.Need-add-t11
+add-t11 c = search needs
 
 returns-3 : tie.Need-returns-3
-returns-3 c = let a = c .before .before .before .before .before .before .args in judge-spend (a .depth) (a .s) (a .lv) (c .before .before .before .before .if1 .left) (c .before .before .before .if2 .left)
+returns-3 c = let a = c .before .before .before .before .args in judge-spend (a .depth) (a .s) (a .lv) (c .before .before .before .if1 .left) (c .before .before .if2 .left)
 
 pub judge-spec : {M : Type 1} → statement M
 judge-spec =
-    tie.close (tie.spec stop-requires returns stop-requires-2 returns-2 sub-t9 add-t10 returns-3)
+    tie.close (tie.spec stop-requires returns stop-requires-2 returns-2 sub-t10 add-t11 returns-3)
