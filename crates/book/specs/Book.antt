@@ -142,3 +142,12 @@ unfoldable pub lookupAt : ℕ → List Lookup → Found
 lookupAt k [] = None
 lookupAt zero (l ∷ ls) = Is l
 lookupAt (suc k) (l ∷ ls) = lookupAt k ls
+
+-- what it says, as a list; none where it doesn't read
+abbrev pub lookupsBy : Reading → List Lookup
+lookupsBy (Reads ls) = ls
+lookupsBy Unreadable = []
+
+-- the lookups of a book that reads
+abbrev pub lookupsOf : List ℕ → List Lookup
+lookupsOf ws = lookupsBy (readBook ws)

@@ -15,7 +15,7 @@ use Rattle.book.specs.Book.{mostWords, mostLookups, Lookup, Kind1, Is, N
 use Rattle.book.specs.Places.{meant, entryAt, missing, sizeAt, startOf, slots, indexed, indexOf, foundIn, foundAt}
 use Rattle.book.specs.Inside.{Good}
 use Rattle.book.specs.Readings.{entry-inside}
-use Rattle.book.specs.Starts.{Next, next, stuck, reads-nil, reads-over}
+use Rattle.book.specs.Starts.{Next, next, no-read, stuck, reads-nil, reads-over}
 
 -- ---- the slots
 
@@ -37,9 +37,6 @@ slot-is (suc n) ws k h l =
     (eq-or-lt-of-le g)
 
 -- ---- one lookup off
-
-no-read : (ls : List Lookup) → Unreadable ≡ Reads ls → ⊥
-no-read ls e = let z : _≡_ {A = ℕ} 0 1 = cc in omega arith
 
 not-nil : (l : Lookup) (ls : List Lookup) → Reads [] ≡ Reads (l ∷ ls) → ⊥
 not-nil l ls e = let z : _≡_ {A = ℕ} 0 1 = cc in omega arith

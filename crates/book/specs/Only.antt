@@ -12,6 +12,7 @@ use lib.Seq.{length-take-le, getD-append-add}
 use Rattle.book.specs.Book.{mostLookups, mostIds, mostInput, mostSide, mostRecords, recordsOf, Lookup, Kind1, Kind2, Kind3, Found, Is, None, Split, Taken, Short, counted, andThen, whole, kind1, kind2, kind3, bodyOf, First, Read, Nothing, followed, firstOf, Reading, Reads, Unreadable, joined, readOn, readLookups, readBook}
 use Rattle.book.specs.Encode.{kindOf, propsOf, numbered, contentOf, encode, encodeAll, Within, AllWithin, Narrow, Legal}
 use Rattle.book.specs.Records.{records-length, pairs-back}
+use Rattle.book.specs.Starts.{no-read}
 use Rattle.book.specs.Finds.{few-lookups, kept}
 use Rattle.book.specs.Written.{reads-back}
 
@@ -212,9 +213,6 @@ record Lists (ws : List ℕ) (ls : List Lookup) : Type 0 where
 no-lookups : (ls : List Lookup) → Reads [] ≡ Reads ls → ls ≡ []
 no-lookups ls e = cc
 
-unread : (ls : List Lookup) → Unreadable ≡ Reads ls → ⊥
-unread ls e = let z : _≡_ {A = ℕ} 0 1 = cc in omega arith
-
 empty : (ls : List Lookup) → Reads [] ≡ Reads ls → Lists [] ls
 unfolding encodeAll AllWithin
 empty [] e = record { are = refl; within = tt }
@@ -235,16 +233,16 @@ module _ (n : ℕ) (again : (ws : List ℕ) (ls : List Lookup) → Narrow ws →
   lists-rest ws rest l ls (Reads ks) w h e f =
       let s : l ∷ ks ≡ ls = cc in
       lists-more ws rest l ks ls h (again rest ks (rest-narrow ws rest l w h) e) s
-  lists-rest ws rest l ls Unreadable w h e f = absurd (unread ls f)
+  lists-rest ws rest l ls Unreadable w h e f = absurd (no-read ls f)
 
   lists-first : (ws : List ℕ) (ls : List Lookup) (f : First) → Narrow ws → firstOf ws ≡ f → readOn f (λ rest. readLookups n rest) ≡ Reads ls → Lists ws ls
   lists-first ws ls (Read l rest) w e r = lists-rest ws rest l ls (readLookups n rest) w (heads ws rest l w e) refl r
-  lists-first ws ls Nothing w e r = absurd (unread ls r)
+  lists-first ws ls Nothing w e r = absurd (no-read ls r)
 
 lists : (n : ℕ) (ws : List ℕ) (ls : List Lookup) → Narrow ws → readLookups n ws ≡ Reads ls → Lists ws ls
 unfolding readLookups
 lists zero [] ls w e = empty ls e
-lists zero (x ∷ ws) ls w e = absurd (unread ls e)
+lists zero (x ∷ ws) ls w e = absurd (no-read ls e)
 lists (suc n) [] ls w e = empty ls e
 lists (suc n) (x ∷ ws) ls w e = lists-first n (λ v ks. lists n v ks) (x ∷ ws) ls (firstOf (x ∷ ws)) w refl e
 

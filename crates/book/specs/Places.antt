@@ -1,4 +1,4 @@
--- Where a lookup's parts stand in the book's words, as the code finds them. Readings.antt shows that they are the lookups of the definition.
+-- The code's side: where a lookup's parts stand in the book's words, as the code finds them. Readings.antt shows that they are the lookups of the definition.
 use Prim.Native.Nat.{ℕ, zero, suc, _+_, _-_, _*_}
 use mathlib.Core.Bool.{Bool, true, false, cond}
 use mathlib.Core.List.{List, _++_}

@@ -13,6 +13,10 @@ use Rattle.book.specs.Book.{mostWords, mostLookups, Lookup, Kind1, Kind2
 use Rattle.book.specs.Places.{zeros, partOf, meant, entryAt, missing, sizeAt, startOf, slots, noIndex, indexed, indexOf}
 use Rattle.book.specs.Readings.{first-at, entry-fits}
 
+-- a book that doesn't read has no lookups
+pub no-read : (ls : List Lookup) → Unreadable ≡ Reads ls → ⊥
+no-read ls e = let z : _≡_ {A = ℕ} 0 1 = cc in omega arith
+
 -- ---- one lookup on
 
 pub reads-nil : (n : ℕ) → readLookups n [] ≡ Reads []

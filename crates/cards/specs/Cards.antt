@@ -1,4 +1,4 @@
--- The starred bench cards, and K14, in one list.
+-- The starred bench cards, and K14, in one list (01, "Bench cards").
 use mathlib.Core.List.{List, [], _∷_}
 use Rattle.cards.specs.Card.{Card}
 use Rattle.cards.specs.Matches.{k1, k2, k3, k4, k5, k5-matched, k6}

@@ -1,4 +1,4 @@
--- Every card in one check: the definitions give what the paper says. And every example beside them in another.
+-- Every card in one check: the definitions give what the paper says. And every example beside them in another (01, "Bench cards": "by one check over one list").
 use mathlib.Core.List.{List, map}
 use mathlib.Core.Path.{_≡_, refl}
 use Prim.Native.Nat.{ℕ}

@@ -1,4 +1,4 @@
--- Examples beside the cards: lookahead, backtrack and the ligature rule on small texts, in the numbers and values of their replies.
+-- Examples of our own beside the cards: lookahead, backtrack and the ligature rule on small texts, in the numbers and values of their replies.
 use mathlib.Core.Bool.{false}
 use mathlib.Core.List.{List, [], _∷_}
 use Prim.Native.Nat.{ℕ}

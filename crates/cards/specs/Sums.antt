@@ -1,4 +1,4 @@
--- Cards K7, K8 and K10: digests and opening sizes.
+-- Cards K7, K8 and K10: digests and opening sizes (01, "Bench cards").
 use mathlib.Core.Bool.{Bool, cond}
 use mathlib.Core.List.{List, [], _∷_}
 use Prim.Native.Nat.{ℕ, zero, suc}

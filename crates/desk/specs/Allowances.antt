@@ -1,4 +1,4 @@
--- An allowance as it is lent: what is left of the work, then of the bytes. A charge answers true where it was taken.
+-- For C, a layout of our own: an allowance as it is lent: what is left of the work, then of the bytes. A charge answers true where it was taken.
 use mathlib.Core.Bool.{Bool, true, false}
 use mathlib.Core.List.{List, [], _∷_}
 use Prim.Native.Nat.{ℕ}

@@ -1,4 +1,4 @@
--- A digest as it is lent: three masks in a row, the one at shift 4 first, then 0, then 6.
+-- For C, a layout of our own: a digest as it is lent: three masks in a row, the one at shift 4 first, then 0, then 6.
 use mathlib.Core.List.{List}
 use Prim.Native.Nat.{ℕ}
 use Rattle.digest.specs.declared.SetDigest.{SetDigest}

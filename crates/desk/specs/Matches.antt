@@ -1,4 +1,4 @@
--- What the matchers answer as numbers: number and values of each answer, as the room's replies have them.
+-- For C, a layout of our own: what the matchers answer as numbers: number and values of each answer, as the room's replies have them.
 use mathlib.Core.List.{List}
 use Prim.Native.Nat.{ℕ}
 use lib.ListN.{getD}

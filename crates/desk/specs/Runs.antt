@@ -1,4 +1,4 @@
--- What a run is handed and answers as numbers.
+-- For C, a layout of our own: what a run is handed and answers as numbers.
 use mathlib.Core.Bool.{cond}
 use Prim.Native.Nat.{ℕ}
 use lib.Dec.{eqb}

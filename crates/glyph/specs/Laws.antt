@@ -47,12 +47,12 @@ glyphsOf-append n u v e =
 
 -- the glyphs before glyph k, and those from it on
 module _ (k : ℕ) (w : List ℕ) (h : words * k ≤ length w) where
-  parted : glyphsOf w ≡ glyphsOf (take (words * k) w) ++ glyphsOf (drop (words * k) w)
+  pub parted : glyphsOf w ≡ glyphsOf (take (words * k) w) ++ glyphsOf (drop (words * k) w)
   parted =
       ap glyphsOf (sym (take-append-drop (words * k) w))
       ∙ glyphsOf-append k (take (words * k) w) (drop (words * k) w) (length-take-le (words * k) w h)
 
-  length-front : length (glyphsOf (take (words * k) w)) ≡ k
+  pub length-front : length (glyphsOf (take (words * k) w)) ≡ k
   length-front =
       let e : length (take (words * k) w) ≡ words * k = length-take-le (words * k) w h in
       omega (arith, length-glyphsOf (take (words * k) w))

@@ -9,7 +9,7 @@ use lib.ListN.{length, getD, set, take, drop, replicate, length-append, length-d
 use lib.Seq.{length-take-le, set-at, getD-drop, getD-set-same, set-set, take-set-le, take-set-lt, drop-set-lt, drop-set-add, paste, paste-zero, paste-suc}
 use Rattle.glyph.specs.declared.Glyph.{Glyph}
 use Rattle.glyph.specs.Glyph.{words, glyphOf, glyphs, glyphsOf, zeros, blank}
-use Rattle.glyph.specs.Laws.{length-glyphsOf, glyphsOf-append, take-glyphsOf, drop-glyphsOf, glyphsOf-cons, getD-glyphsOf}
+use Rattle.glyph.specs.Laws.{length-glyphsOf, glyphsOf-append, take-glyphsOf, drop-glyphsOf, glyphsOf-cons, getD-glyphsOf, parted, length-front}
 use Rattle.glyph.specs.Write.{withId}
 
 -- n glyphs copied over those from glyph j on
@@ -41,16 +41,6 @@ pub copied-glyphsOf : (w from : List ℕ) (j i n : ℕ) → words * j + words * 
 copied-glyphsOf w from j i n h k =
     paste-glyphsOf w j (drop (words * i) from) n h (simp length-drop (omega arith))
     ∙ ap (λ (s : List Glyph). paste (glyphsOf w) j s n) (sym (drop-glyphsOf i from (omega arith)))
-
--- a row's glyphs before glyph i, and from it on
-module _ (i : ℕ) (w : List ℕ) (h : words * i ≤ length w) where
-  parted : glyphsOf w ≡ glyphsOf (take (words * i) w) ++ glyphsOf (drop (words * i) w)
-  parted =
-      sym (take-append-drop i (glyphsOf w)) ∙ rw (take-glyphsOf i w h, drop-glyphsOf i w h)
-
-  length-front : length (glyphsOf (take (words * i) w)) ≡ i
-  length-front =
-      omega (arith, length-glyphsOf (take (words * i) w), length-take-le (words * i) w h)
 
 -- a word of the first glyph stored
 set-first : (w : List ℕ) (k v : ℕ) → words ≤ length w → k < words

@@ -10,10 +10,11 @@ use lib.Seq.{length-take-le, getD-take, getD-drop, getD-append-add, ext-getD, ge
 use Rattle.glyph.specs.Glyph.{limit}
 use Rattle.matching.specs.Take.{slots}
 use Rattle.matching.specs.Answers.{slotted}
-use Rattle.runs.specs.Repair.{Level, following, gained, lost}
-use Rattle.runs.specs.Rises.{Rises, Sound, rises-at, length-following, length-gained, length-lost}
+use Rattle.runs.specs.Repair.{Level, following, gained, lost, Rises, Sound}
+use Rattle.runs.specs.Rises.{rises-at, length-following, length-gained, length-lost}
 use Rattle.levels.specs.declared.Slots.{Slots}
-use Rattle.levels.specs.Slots.{levelOf, shown, Neat, Placed, fromDone}
+use Rattle.levels.specs.Slots.{levelOf, shown, Neat, Placed}
+use Rattle.runs.specs.Run.{fromDone}
 
 -- ---- levels and slots
 

@@ -12,11 +12,12 @@ use lib.Seq.{getD-take}
 use Rattle.glyph.specs.Glyph.{limit}
 use Rattle.matching.specs.Take.{slots}
 use Rattle.matching.specs.Answers.{slotted}
-use Rattle.runs.specs.Repair.{Level, gained, lost, grownBy, shrunkBy, raisedTo, heldBack, repaired}
-use Rattle.runs.specs.Rises.{Sound, length-gained, length-lost, rises-at}
+use Rattle.runs.specs.Repair.{Level, gained, lost, grownBy, shrunkBy, raisedTo, heldBack, repaired, Sound}
+use Rattle.runs.specs.Rises.{length-gained, length-lost, rises-at}
 use Rattle.levels.specs.declared.Slots.{Slots}
-use Rattle.levels.specs.Slots.{levelOf, shown, Neat, Placed, fromDone, movedLevel}
+use Rattle.levels.specs.Slots.{levelOf, shown, Neat, Placed}
 use Rattle.levels.specs.Laws.{size-is, placed, count-is}
+use Rattle.runs.specs.Run.{fromDone, movedLevel}
 
 at-most : (a b m : ℕ) → m ≡ min a b → m ≤ b
 at-most a b m e = omega arith

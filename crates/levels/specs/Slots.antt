@@ -1,4 +1,4 @@
--- A level in slots: how the code keeps the positions of a level, 64 numbers of which the first `count` are positions and the others 0.
+-- The code's side: a level in slots. How the code keeps the positions of a level, 64 numbers of which the first `count` are positions and the others 0.
 use mathlib.Core.Path.{_≡_}
 use mathlib.Core.Bool.{true}
 use mathlib.Core.List.{List, map}
@@ -28,11 +28,3 @@ pub record Placed (at : List ℕ) (count : ℕ) : Type 0 where
   pub few : count ≤ slots
   pub low : (k : ℕ) → k < count → getD at k 0 ≤ limit
   pub high : (k : ℕ) → k < count → k ≤ getD at k 0
-
--- a place of the coming row, from the text's first glyph on: glyph idx of the row is glyph d of the text
-abbrev pub fromDone : ℕ → ℕ → ℕ → ℕ
-fromDone idx d p = d + (p - idx)
-
--- the level of a match whose places count in the coming row
-abbrev pub movedLevel : ℕ → ℕ → List ℕ → ℕ → Level
-movedLevel idx d places end = record { live = true; positions = map (fromDone idx d) places; end = fromDone idx d end }

@@ -5,9 +5,9 @@ ghost use Prim.Native.Nat.{_+_, _-_, _≤_, _<_, min};
 ghost use lib.ListN.{length, getD, take};
 ghost use Rattle.glyph.specs.Glyph.{limit};
 ghost use Rattle.matching.specs.Answers.{slotted};
-ghost use Rattle.runs.specs.Repair.{gained, lost, grownBy, shrunkBy, repaired};
-ghost use Rattle.runs.specs.Rises.{Sound};
-ghost use Rattle.levels.specs.Slots.{Placed, levelOf, shown, Neat, fromDone, movedLevel};
+ghost use Rattle.runs.specs.Repair.{gained, lost, grownBy, shrunkBy, repaired, Sound};
+ghost use Rattle.levels.specs.Slots.{Placed, levelOf, shown, Neat};
+ghost use Rattle.runs.specs.Run.{fromDone, movedLevel};
 
 pub const SLOTS: usize = 64;
 

@@ -17,7 +17,8 @@ use Rattle.ligature.specs.declared.Base.{Base}
 use Rattle.ligature.specs.declared.Base.the-variants.{At, Nothing}
 use Rattle.ligature.specs.declared.Ligbase.{Ligbase}
 use Rattle.ligature.specs.declared.Ligbase.the-variants.{NotChecked, MayNotSkip, MaySkip}
-use Rattle.ligature.specs.Ligature.{attached, together, mayJoin, baseBefore, skipsAt, baseSkips, baseNeeded, maySkip, looked}
+use Rattle.ligature.specs.Ligature.{attached, together, mayJoin, baseBefore, skipsAt, baseSkips}
+use Rattle.ligature.specs.Search.{baseNeeded, maySkip, looked}
 
 -- what the glyph at place k makes of the search from after it
 abbrev pub seen : Glyph → ℕ → ℕ → Base → Base

@@ -10,8 +10,6 @@ use Rattle.verdict.specs.declared.Matcher.{Matcher}
 use Rattle.verdict.specs.Verdict.{skipYes}
 use Rattle.ligature.specs.declared.Base.{Base}
 use Rattle.ligature.specs.declared.Base.the-variants.{At, Nothing}
-use Rattle.ligature.specs.declared.Ligbase.{Ligbase}
-use Rattle.ligature.specs.declared.Ligbase.the-variants.{NotChecked, MayNotSkip, MaySkip}
 
 -- nonzero id and component
 abbrev pub attached : Glyph → Bool
@@ -42,20 +40,3 @@ skipsAt m sets gs Nothing = false
 -- a base is found, and it is skip Yes
 unfoldable pub baseSkips : Matcher → List ℕ → ℕ → List Glyph → Bool
 baseSkips m sets id gs = skipsAt m sets gs (baseBefore id gs (length gs))
-
--- ---- the search made once, when it is needed
-
--- only then does the base count
-unfoldable pub baseNeeded : Glyph → Glyph → Bool
-baseNeeded first this = attached first && not (together first this)
-
-abbrev pub maySkip : Ligbase → Bool
-maySkip NotChecked = false
-maySkip MayNotSkip = false
-maySkip MaySkip = true
-
--- what is known of the base, where the search would say `skips`
-abbrev pub looked : Ligbase → Bool → Bool → Ligbase
-looked NotChecked needed skips = cond needed (cond skips MaySkip MayNotSkip) NotChecked
-looked MayNotSkip needed skips = MayNotSkip
-looked MaySkip needed skips = MaySkip

@@ -8,7 +8,8 @@ use verdict::Matcher;
 ghost use mathlib.Core.Path.{_≡_};
 ghost use lib.ListN.{length};
 ghost use Rattle.glyph.specs.Glyph.{glyphsOf};
-ghost use Rattle.ligature.specs.Ligature.{attached, baseNeeded, mayJoin, baseBefore, baseSkips, maySkip, looked};
+ghost use Rattle.ligature.specs.Ligature.{attached, mayJoin, baseBefore, baseSkips};
+ghost use Rattle.ligature.specs.Search.{baseNeeded, maySkip, looked};
 
 pub enum Base {
     At(usize),

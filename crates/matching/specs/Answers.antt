@@ -1,5 +1,6 @@
 -- The answers that an outcome gives, and this paper's number and values for each case of each answer (01, "When the desk says no").
 use Prim.Native.Nat.{ℕ, _+_, _-_}
+use mathlib.Core.Bool.{Bool, true, false}
 use mathlib.Core.List.{List, [], _∷_, _++_}
 use lib.ListN.{length, getD, take, replicate}
 use Rattle.glyph.specs.declared.Glyph.{Glyph}
@@ -76,3 +77,23 @@ abbrev pub contextReply : ContextMatch → Reply
 contextReply (ContextMatch.Matched place) = record { number = 0; values = place ∷ [] }
 contextReply (ContextMatch.Refused why) = numberOnly (refusalNumber why)
 contextReply (ContextMatch.Lost extent) = extentOf extent
+
+-- ---- answers by their cases, for whoever takes one apart
+
+abbrev pub isMatched : InputAnswer → Bool
+isMatched (InputAnswer.Matched end total) = true
+isMatched (InputAnswer.Refused why) = false
+isMatched (InputAnswer.Lost extent) = false
+isMatched InputAnswer.Ligature = false
+
+-- the end of a match, else 0
+abbrev pub endOf : InputAnswer → ℕ
+endOf (InputAnswer.Matched end total) = end
+endOf (InputAnswer.Refused why) = 0
+endOf (InputAnswer.Lost extent) = 0
+endOf InputAnswer.Ligature = 0
+
+abbrev pub isFound : ContextMatch → Bool
+isFound (ContextMatch.Matched place) = true
+isFound (ContextMatch.Refused why) = false
+isFound (ContextMatch.Lost extent) = false

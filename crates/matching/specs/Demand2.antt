@@ -1,4 +1,4 @@
--- Demand 2: which matches are accepted, for any judge of a value and a place and any rule on places (01, "When the desk says no").
+-- Demand 2: which matches are accepted, for any judge of a value and a place and any rule on places (01, port order 5 and "Nailing an answer down").
 -- Accepted exactly when there are places, rising from where matching begins (backward: falling), such that each matches its value, each
 -- place between is passed over for the value then due, and the rule lets each. They are the answer's, and no others are such.
 -- Else the answer is 4 with the extent of the walk that failed, or 5 where the rule turned a place down.

@@ -50,10 +50,6 @@ contextMatcherOf lookup = matcherOf (lookup .settings) true (lookup .mask) (look
 
 -- ---- the three
 
--- what input matching is handed once a call isn't refused
-abbrev pub InputReady : List Glyph → ℕ → List ℕ → Type 0
-InputReady coming idx values = (idx < length coming) × (length coming ≤ limit) × (length values < slots)
-
 unfoldable pub inputOn : Lookup → List ℕ → Test → List Glyph → List Glyph → ℕ → List ℕ → Outcome
 inputOn lookup sets test done coming idx values =
     inputBy (inputMatcherOf lookup) sets test (searchedGlyphs (lookup .settings .table) done) coming idx values

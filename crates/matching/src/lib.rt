@@ -11,9 +11,10 @@ ghost use Prim.Native.Nat.{_≤_};
 ghost use lib.ListN.{length};
 ghost use Rattle.glyph.specs.Glyph.{glyphsOf};
 ghost use Rattle.matching.specs.Take.{ahead, behind};
-ghost use Rattle.matching.specs.Matchers.{InputReady, inputBy, inputOn, aheadOn, backOn, firstOrNone, backwardRow, searchedGlyphs};
+ghost use Rattle.matching.specs.Matchers.{inputBy, inputOn, aheadOn, backOn, firstOrNone, backwardRow, searchedGlyphs};
 ghost use Rattle.matching.specs.Answers.{without, inputTold, contextTold};
 ghost use Rattle.matching.specs.Calls.{badText, inputFit, aheadFit, backFit, inputOf, aheadOf, backOf};
+ghost use Rattle.matching.specs.Accepted.{InputReady};
 
 // Positions of a match, at most.
 pub const MAX_CONTEXT_LENGTH: usize = 64;

@@ -19,16 +19,17 @@ use Rattle.text.specs.Laws.{sizes}
 use Rattle.matching.specs.declared.InputAnswer.{InputAnswer}
 use Rattle.matching.specs.declared.InputMatch.{InputMatch}
 use Rattle.matching.specs.Take.{slots}
-use Rattle.matching.specs.Answers.{slotted}
+use Rattle.matching.specs.Answers.{slotted, endOf}
 use Rattle.book.specs.declared.Index.{Index}
-use Rattle.book.specs.Book.{Reading, Reads, Unreadable, readBook, isRead, recordsOf}
+use Rattle.book.specs.Book.{Reading, Reads, Unreadable, readBook, isRead, recordsOf, lookupsOf, lookupsBy}
 use Rattle.book.specs.Places.{indexOf, indexed, noIndex}
-use Rattle.runs.specs.Repair.{Level}
-use Rattle.runs.specs.Rises as rises
-use Rattle.runs.specs.Rises.{Rises, Sound, rises-wider}
-use Rattle.runs.specs.Run.{Run, Stage, opened}
+use Rattle.book.specs.Starts.{index-reads}
+use Rattle.runs.specs.Repair.{Level, Rises, Sound}
+use Rattle.runs.specs.Repair as rises
+use Rattle.runs.specs.Rises.{rises-wider}
+use Rattle.runs.specs.Run.{Run, Stage, opened, fromDone, movedLevel, mostAllowance, mostDepth}
 use Rattle.levels.specs.declared.Slots.{Slots}
-use Rattle.levels.specs.Slots.{levelOf, shown, Neat, fromDone, movedLevel}
+use Rattle.levels.specs.Slots.{levelOf, shown, Neat}
 use Rattle.levels.specs.Laws.{level-shown, shown-neat}
 use Rattle.nested.specs.declared.Refusal.{Refusal}
 use Rattle.nested.specs.declared.Refusal.the-variants.{Shape, Cursor, Limits, Book, Match}
@@ -36,10 +37,9 @@ use Rattle.nested.specs.declared.RunEnding.{RunEnding}
 use Rattle.nested.specs.declared.RunAnswer.{RunAnswer}
 use Rattle.nested.specs.declared.Checked.{Checked}
 use Rattle.nested.specs.declared.Closed.{Closed}
-use Rattle.steps.specs.State.{mostAllowance, Ran}
-use Rattle.nested.specs.Levels.{lookupsOf, lookupsBy, Indexed, Chained}
-use Rattle.steps.specs.Shifts.{endOf}
-use Rattle.nested.specs.Calls.{mostDepth, badRecords, checkedFirst, checkedPlaces, checkedMatch, checkedBook, checkedAll, then, risesTo, goodPlaces, refusedBy, Whole, Said}
+use Rattle.steps.specs.State.{Ran}
+use Rattle.nested.specs.Levels.{Indexed, Chained}
+use Rattle.nested.specs.Calls.{badRecords, checkedFirst, checkedPlaces, checkedMatch, checkedBook, checkedAll, then, risesTo, goodPlaces, refusedBy, Whole, Said}
 
 -- ---- places that rise, one a turn
 
@@ -230,14 +230,6 @@ whole-first f x lv idx d places end end′ done coming r e q w =
     subst (λ (L : Level). Whole (f (record { level = L; run = x })) done coming r) l w
 
 -- ---- the book
-
-reads-by : (ws : List ℕ) (k : Reading) → indexed ws k .reads ≡ isRead k
-reads-by ws (Reads ls) = refl
-reads-by ws Unreadable = refl
-
-pub index-reads : (ws : List ℕ) → indexOf ws .reads ≡ isRead (readBook ws)
-unfolding indexOf
-index-reads ws = reads-by ws (readBook ws)
 
 is-reading : (k : Reading) → isRead k ≡ true → k ≡ Reads (lookupsBy k)
 is-reading (Reads ls) e = refl

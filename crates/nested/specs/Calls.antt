@@ -13,29 +13,21 @@ use Rattle.text.specs.Text.{Text, textOf, Holds, Clear, unfit, pastEnd}
 use Rattle.matching.specs.declared.InputAnswer.{InputAnswer}
 use Rattle.matching.specs.declared.InputMatch.{InputMatch}
 use Rattle.matching.specs.Take.{slots}
-use Rattle.matching.specs.Answers.{slotted}
-use Rattle.book.specs.Book.{mostRecords, recordsOf, readBook, isRead}
+use Rattle.matching.specs.Answers.{slotted, endOf}
+use Rattle.book.specs.Book.{mostRecords, recordsOf, readBook, isRead, lookupsOf}
 use Rattle.runs.specs.declared.Ending.{Ending}
 use Rattle.runs.specs.declared.Ending.the-variants.{Finished, Short, Deep, Full}
 use Rattle.runs.specs.declared.Given.{Given}
 use Rattle.runs.specs.Repair.{Level}
-use Rattle.runs.specs.Run.{Run, Stage, runOn}
+use Rattle.runs.specs.Run.{Run, Stage, runOn, movedLevel, mostAllowance, mostDepth}
 use Rattle.runs.specs.Chain.{chainMatch}
-use Rattle.levels.specs.Slots.{movedLevel}
 use Rattle.nested.specs.declared.Refusal.{Refusal}
 use Rattle.nested.specs.declared.Refusal.the-variants.{Shape, Cursor, Limits, Book, Match}
 use Rattle.nested.specs.declared.RunEnding.{RunEnding}
 use Rattle.nested.specs.declared.RunAnswer.{RunAnswer}
 use Rattle.nested.specs.declared.Checked.{Checked}
-use Rattle.steps.specs.State.{mostAllowance}
-use Rattle.nested.specs.Levels.{lookupsOf}
-use Rattle.steps.specs.Shifts.{endOf}
 
 -- ---- refusals
-
--- 12: a depth over this
-abbrev pub mostDepth : ℕ
-mostDepth = 64
 
 -- records that aren't pairs, or over 16 of them
 abbrev pub badRecords : List ℕ → Bool

@@ -11,15 +11,15 @@ use Rattle.text.specs.Changes.{size-is}
 use Rattle.text.specs.Laws.{sizes}
 use Rattle.book.specs.declared.Entry.{Entry}
 use Rattle.book.specs.declared.Part.{Part}
-use Rattle.book.specs.Book.{Record, Lookup, Kind1, Kind2, Kind3, Reading, Reads, Unreadable, Found, Is, None, recordsOf, readBook, lookupAt, mostInput}
+use Rattle.book.specs.Book.{Record, Lookup, Kind1, Kind2, Kind3, Reading, Reads, Unreadable, Found, Is, None, recordsOf, readBook, lookupAt, mostInput, lookupsOf}
 use Rattle.book.specs.Places.{partOf, meant, indexOf, foundIn, foundAt}
 use Rattle.book.specs.Inside.{Inside, Good}
 use Rattle.book.specs.Finds.{found-is, found-inside}
 use Rattle.book.specs.Records.{records-step}
 use Rattle.runs.specs.declared.Given.{Given}
-use Rattle.runs.specs.Repair.{Level, repaired}
-use Rattle.runs.specs.Run.{Run, Stage, Match, Matched, Unmatched, size, when, opened, chainedBy, appliedBy, placeOf, isDue, arrived, followedBy, triedBy, dueBy, stepBy, recordsBy, closed, chainRun, lookupRun}
-use Rattle.runs.specs.Rises.{Sound, rises-wider}
+use Rattle.runs.specs.Repair.{Level, repaired, Sound}
+use Rattle.runs.specs.Run.{Run, Stage, Match, Matched, Unmatched, size, when, opened, chainedBy, appliedBy, placeOf, isDue, arrived, followedBy, triedBy, dueBy, stepBy, recordsBy, closed, chainRun, lookupRun, mostAllowance}
+use Rattle.runs.specs.Rises.{rises-wider}
 use Rattle.runs.specs.Kept as kept
 use Rattle.runs.specs.Kept.{Kept, Fitting, Fair, Keeps, step-good, lookup-keeps, due-shows}
 use Rattle.runs.specs.Tries.{Adds, step-adds, lookup-adds}
@@ -31,8 +31,8 @@ use Rattle.levels.specs.Laws.{level-shown, shown-neat, count-is}
 use Rattle.steps.specs.declared.State.{State}
 use Rattle.steps.specs.declared.Ready.{Ready}
 use Rattle.steps.specs.declared.Aim.{Aim}
-use Rattle.steps.specs.State.{runOf, stageOf, Ran, Able, at, mostAllowance, Judgement, judged, readied, Prepared, actedBy, noAim, aimAt, aimedAt}
-use Rattle.nested.specs.Levels.{Indexed, lookupsOf}
+use Rattle.steps.specs.State.{runOf, stageOf, Ran, Able, at, Judgement, judged, readied, Prepared, actedBy, noAim, aimAt, aimedAt}
+use Rattle.nested.specs.Levels.{Indexed}
 
 -- ---- the book
 

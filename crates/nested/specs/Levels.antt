@@ -1,9 +1,9 @@
--- What a level of the run may count on and leaves, as the code keeps it.
+-- The code's side: what a level of the run may count on and leaves, as the code keeps it.
 use mathlib.Core.Path.{_≡_}
 use mathlib.Core.Bool.{true}
 use mathlib.Core.List.{List, []}
 use Prim.Native.Nat.{ℕ}
-use Rattle.book.specs.Book.{Lookup, Reading, Reads, Unreadable, readBook}
+use Rattle.book.specs.Book.{Lookup, Reading, Reads, Unreadable, readBook, lookupsOf}
 use Rattle.book.specs.Places.{indexOf}
 use Rattle.runs.specs.Run.{Stage}
 use Rattle.levels.specs.Slots.{shown}
@@ -11,14 +11,6 @@ use Rattle.steps.specs.State.{Ran}
 use Rattle.nested.specs.declared.Closed.{Closed}
 
 -- ---- the book, read once
-
-abbrev pub lookupsBy : Reading → List Lookup
-lookupsBy (Reads ls) = ls
-lookupsBy Unreadable = []
-
--- the lookups of a book that reads
-abbrev pub lookupsOf : List ℕ → List Lookup
-lookupsOf ws = lookupsBy (readBook ws)
 
 -- the book reads, and these are its lookups' starts
 pub record Indexed (ws starts : List ℕ) (count : ℕ) : Type 0 where

@@ -9,12 +9,11 @@ use Rattle.glyph.specs.Glyph.{limit}
 use Rattle.text.specs.Text.{Text, textOf, sizeOf, movedTo, Fits}
 use Rattle.text.specs.Changes.{size-is}
 use Rattle.text.specs.Laws.{sizes}
-use Rattle.book.specs.Book.{Record, Lookup, recordsOf}
+use Rattle.book.specs.Book.{Record, Lookup, recordsOf, lookupsOf}
 use Rattle.book.specs.Records.{records-step, records-end}
 use Rattle.runs.specs.declared.Given.{Given}
-use Rattle.runs.specs.Repair.{Level, repaired}
-use Rattle.runs.specs.Run.{Run, Stage, size, changed, when, placeOf, isDue, isOver, arrived, spending, followedBy, triedBy, dueBy, stepBy, recordsBy, closed, chainRun, lookupRun}
-use Rattle.runs.specs.Rises.{Sound}
+use Rattle.runs.specs.Repair.{Level, repaired, Sound}
+use Rattle.runs.specs.Run.{Run, Stage, size, changed, when, placeOf, isDue, isOver, arrived, spending, followedBy, triedBy, dueBy, stepBy, recordsBy, closed, chainRun, lookupRun, mostAllowance}
 use Rattle.runs.specs.Kept as kept
 use Rattle.runs.specs.Kept.{Kept, Keeps, Due, step-good, lookup-keeps, due-shows, records-good}
 use Rattle.runs.specs.Tries.{Adds, step-adds, lookup-adds}
@@ -24,8 +23,8 @@ use Rattle.levels.specs.Slots.{levelOf, shown, Neat}
 use Rattle.levels.specs.Laws.{level-shown, shown-neat, count-is}
 use Rattle.steps.specs.declared.State.{State}
 use Rattle.steps.specs.declared.Ready.{Ready}
-use Rattle.steps.specs.State.{runOf, stageOf, Ran, Able, at, mostAllowance, Judgement, judged, readied, Prepared, closedAt}
-use Rattle.nested.specs.Levels.{Indexed, lookupsOf}
+use Rattle.steps.specs.State.{runOf, stageOf, Ran, Able, at, Judgement, judged, readied, Prepared, closedAt}
+use Rattle.nested.specs.Levels.{Indexed}
 use Rattle.nested.specs.Cycle.{book-fair}
 
 -- the record of two words
@@ -230,6 +229,3 @@ glyph-there done coming s f h = let z = sizes done coming (s .place) f in omega 
 -- a text is never longer than a row
 pub size-within : {done coming : List ℕ} (s : State) → Fits done coming (s .place) → sizeOf (s .place) ≤ limit
 size-within s f = let w = f .within in let r = f .room in omega arith
-
-pub neat-is : (lv : Slots) (L : Level) → lv ≡ shown L → Neat lv
-neat-is lv L e = rw e (shown-neat L)

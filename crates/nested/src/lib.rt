@@ -11,14 +11,14 @@ ghost use Prim.Native.Nat.{_+_, _≤_, _<_};
 ghost use lib.ListN.{length, take};
 ghost use Rattle.glyph.specs.Glyph.{limit};
 ghost use Rattle.text.specs.Text.{textOf, Fits};
-ghost use Rattle.book.specs.Book.{recordsOf};
-ghost use Rattle.runs.specs.Rises.{Sound};
-ghost use Rattle.runs.specs.Run.{begun, chainRun, lookupRun};
+ghost use Rattle.book.specs.Book.{recordsOf, lookupsOf};
+ghost use Rattle.runs.specs.Run.{begun, chainRun, lookupRun, mostAllowance};
 ghost use Rattle.runs.specs.Chain.{chainMatch};
 ghost use Rattle.levels.specs.Slots.{levelOf, Neat};
-ghost use Rattle.steps.specs.State.{mostAllowance, runOf, stageOf, Ran, Able};
-ghost use Rattle.nested.specs.Levels.{Indexed, lookupsOf, Chained};
+ghost use Rattle.steps.specs.State.{runOf, stageOf, Ran, Able};
+ghost use Rattle.nested.specs.Levels.{Indexed, Chained};
 ghost use Rattle.nested.specs.Calls.{badRecords, checkedFirst, checkedMatch, checkedAll, risesTo, goodPlaces, refusedBy, Whole, runSays, Said};
+ghost use Rattle.runs.specs.Repair.{Sound};
 
 // Allowance and depth of a run, at most.
 pub const MOST_ALLOWANCE: u32 = 2147483647;
@@ -170,7 +170,7 @@ fn apply(
         (now (done .entry)) (now (coming .entry)) (now (done .exit)) (now (coming .exit)) r ⌝ }
 {
     let answer = matched.answer;
-    let InputAnswer::Matched { end, total: _ } = answer else {
+    let InputAnswer::Matched { end, total } = answer else {
         return refuse(Refusal::Match);
     };
     let places = matched.positions;

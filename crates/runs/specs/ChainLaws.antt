@@ -20,10 +20,10 @@ use Rattle.matching.specs.Rising.{as-many, end-inside}
 use Rattle.book.specs.Book.{Record, Lookup, Kind1, Kind2, Kind3, Is, lookupAt, mostInput}
 use Rattle.runs.specs.declared.Given.{Given}
 use Rattle.runs.specs.Run.{Match, Matched, Unmatched}
-use Rattle.runs.specs.Rises as rises
-use Rattle.runs.specs.Rises.{Rises, Sound}
+use Rattle.runs.specs.Repair as rises
 use Rattle.runs.specs.Kept.{Fitting, Fair}
 use Rattle.runs.specs.Chain.{asks, inputAt, aheadAt, backAt, endAfter, isTaken, contextMatched, afterInput, chainMatch}
+use Rattle.runs.specs.Repair.{Rises, Sound}
 
 -- no chain of the book has over 63 input values
 abbrev pub FewValues : List Lookup → Type 0

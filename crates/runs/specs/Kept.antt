@@ -16,9 +16,9 @@ use Rattle.text.specs.Changes.{replaced-length, replaced-before}
 use Rattle.book.specs.Book.{Record, Lookup, Kind1, Kind2, Kind3, Found, Is, None, lookupAt}
 use Rattle.runs.specs.declared.Ending.{Ending}
 use Rattle.runs.specs.declared.Ending.the-variants.{Full}
-use Rattle.runs.specs.Repair.{Level, repaired}
+use Rattle.runs.specs.Repair.{Level, repaired, Sound}
 use Rattle.runs.specs.Run.{Run, Stage, Match, Matched, Unmatched, isOver, size, changed, endingAs, when, isAt, multiplied, opened, chainedBy, appliedBy, placeOf, isDue, arrived, spending, followedBy, triedBy, dueBy, stepBy, recordsBy, closed, chainRun, lookupRun}
-use Rattle.runs.specs.Rises.{Sound, repaired-sound, rises-at}
+use Rattle.runs.specs.Rises.{repaired-sound, rises-at}
 
 -- y has the glyphs of x before place p
 pub record Kept (p : ℕ) (x y : Run) : Type 0 where

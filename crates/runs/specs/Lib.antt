@@ -1,6 +1,7 @@
 pub mod Repair
 pub mod Run
 pub mod Rises
+pub mod Met
 pub mod Kept
 pub mod Spending
 pub mod Tries

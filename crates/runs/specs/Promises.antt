@@ -1,4 +1,4 @@
--- Demand 3 and its companions, of any run over a text: whatever the book, the records, the match and the way in which chains are matched.
+-- Demand 3 and its companions, of any run over a text: whatever the book, the records, the match and the way in which chains are matched (01, "Nailing an answer down").
 use mathlib.Core.Path.{_≡_, refl, sym, ap, _∙_}
 use mathlib.Core.Bool.{true}
 use mathlib.Core.List.{List}
@@ -12,10 +12,11 @@ use Rattle.book.specs.Book.{Record, Lookup}
 use Rattle.runs.specs.declared.Ending.{Ending}
 use Rattle.runs.specs.declared.Ending.the-variants.{Finished, Short, Deep, Full}
 use Rattle.runs.specs.Run.{Run, Stage, Match, opened, begun, chainRun, runOn}
-use Rattle.runs.specs.Rises.{Sound}
 use Rattle.runs.specs.Kept.{Fair, Good, chain-good}
 use Rattle.runs.specs.Spending.{leftOf, endOf, refilledOf, chain-core}
-use Rattle.runs.specs.Tries.{Met, chain-adds, chain-told}
+use Rattle.runs.specs.Tries.{chain-adds, chain-told}
+use Rattle.runs.specs.Repair.{Sound}
+use Rattle.runs.specs.Met.{Met}
 
 -- two runs that end Finished with the same text, cursor, positions and number spent
 pub record Alike (v w : Stage) : Type 0 where

@@ -2,7 +2,7 @@
 -- (01, "Records over a text": "Positions are then repaired as A does"; A's `apply_lookup`). Positions and end count from the text's first glyph.
 use mathlib.Core.Bool.{Bool, true, false, cond}
 use mathlib.Core.List.{List, [], _∷_, _++_, map}
-use Prim.Native.Nat.{ℕ, zero, suc, _+_, _-_, min}
+use Prim.Native.Nat.{ℕ, zero, suc, _+_, _-_, _≤_, min}
 use lib.Dec.{leb, ltb}
 use lib.ListN.{length, getD, take, drop}
 
@@ -54,3 +54,17 @@ shrunkBy i n lv = record {
 -- the lookup at position i found `old` glyphs in the text and left `new`
 unfoldable pub repaired : ℕ → ℕ → ℕ → Level → Level
 repaired i old new lv = cond (ltb old new) (grownBy i (new - old) lv) (cond (ltb new old) (shrunkBy i (old - new) lv) lv)
+
+-- ---- what a level keeps to (Rises.antt shows that repair does)
+
+-- positions from `low` on, each after the one before it, none past the end
+pub data Rises : ℕ → ℕ → List ℕ → Type 0 where
+  none : {low end : ℕ} → Rises low end []
+  next : {low end : ℕ} {ps : List ℕ} (p : ℕ) → low ≤ p → p ≤ end → Rises (p + 1) end ps → Rises low end (p ∷ ps)
+
+-- a level of at most 64 positions over a text of so many glyphs: they rise from `low`, none passes the end, and the end is in the text
+pub record Sound (low size : ℕ) (lv : Level) : Type 0 where
+  pub few : length (lv .positions) ≤ mostPositions
+  pub rises : Rises low (lv .end) (lv .positions)
+  pub begins : low ≤ lv .end
+  pub within : lv .end ≤ size

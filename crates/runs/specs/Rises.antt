@@ -10,12 +10,7 @@ use borrow.Author.Tests.{leb-true, leb-false, ltb-true, ltb-false}
 use lib.Dec.{leb, ltb}
 use lib.ListN.{length, getD, take, drop, length-append, length-take, length-drop, length-map}
 use lib.Seq.{drop-nil, take-nil}
-use Rattle.runs.specs.Repair.{Level, mostPositions, following, gained, lost, grownBy, shrunkBy, raisedTo, heldBack, repaired}
-
--- positions from `low` on, each after the one before it, none past the end
-pub data Rises : ℕ → ℕ → List ℕ → Type 0 where
-  none : {low end : ℕ} → Rises low end []
-  next : {low end : ℕ} {ps : List ℕ} (p : ℕ) → low ≤ p → p ≤ end → Rises (p + 1) end ps → Rises low end (p ∷ ps)
+use Rattle.runs.specs.Repair.{Level, mostPositions, following, gained, lost, grownBy, shrunkBy, raisedTo, heldBack, repaired, Rises, Sound, none, next}
 
 pub rises-wider : {low end : ℕ} {ps : List ℕ} (low′ end′ : ℕ) → low′ ≤ low → end ≤ end′ → Rises low end ps → Rises low′ end′ ps
 rises-wider low′ end′ l e none = none
@@ -91,13 +86,6 @@ unfolding lost
 length-lost i n ps h k = simp (length-append, length-map, length-take, length-drop) (omega arith)
 
 -- ---- repair
-
--- a level of at most 64 positions over a text of so many glyphs: they rise from `low`, none passes the end, and the end is in the text
-pub record Sound (low size : ℕ) (lv : Level) : Type 0 where
-  pub few : length (lv .positions) ≤ mostPositions
-  pub rises : Rises low (lv .end) (lv .positions)
-  pub begins : low ≤ lv .end
-  pub within : lv .end ≤ size
 
 -- where more positions follow than go, as many go as the end comes back
 all-went : (back count i end : ℕ) → min back (count - suc i) + suc i < count → end - min back (count - suc i) ≤ end - back

@@ -2,8 +2,8 @@
 -- A chain lookup applies records, and a record applies a lookup: the depth that is left falls from a chain to the lookups of its records.
 -- Whether a chain matches at the cursor, and where, is asked of `match`; see Chain.antt for the answer that 01 gives.
 use mathlib.Core.Bool.{Bool, true, false, cond, not, _&&_}
-use mathlib.Core.List.{List, [], _∷_}
-use Prim.Native.Nat.{ℕ, zero, suc, _+_}
+use mathlib.Core.List.{List, [], _∷_, map}
+use Prim.Native.Nat.{ℕ, zero, suc, _+_, _-_}
 use lib.Dec.{eqb, ltb}
 use lib.ListN.{length, getD}
 use Rattle.glyph.specs.Glyph.{blank}
@@ -143,3 +143,21 @@ module _ (match : Lookup → Text → Match) (book : List Lookup) where
   -- a run handed a match, whose level is the first
   abbrev pub runOn : ℕ → List Record → List ℕ → ℕ → ℕ → Text → Stage
   runOn depth rs positions end allowance t = chainRun depth rs (opened positions end (begun allowance t))
+
+-- ---- the match handed in counts places in the coming row; a run's own positions count from the first glyph of `done`
+
+-- a place of the coming row, from the text's first glyph on: glyph idx of the row is glyph d of the text
+abbrev pub fromDone : ℕ → ℕ → ℕ → ℕ
+fromDone idx d p = d + (p - idx)
+
+-- the level of a match whose places count in the coming row
+abbrev pub movedLevel : ℕ → ℕ → List ℕ → ℕ → Level
+movedLevel idx d places end = record { live = true; positions = map (fromDone idx d) places; end = fromDone idx d end }
+
+-- ---- refusal 12: an allowance over this, or a depth over that
+
+abbrev pub mostAllowance : ℕ
+mostAllowance = 2147483647
+
+abbrev pub mostDepth : ℕ
+mostDepth = 64

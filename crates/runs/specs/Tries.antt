@@ -13,6 +13,7 @@ use Rattle.runs.specs.declared.Ending.{Ending}
 use Rattle.runs.specs.declared.Ending.the-variants.{Finished, Short, Deep, Full}
 use Rattle.runs.specs.Run.{Run, Stage, Match, Matched, Unmatched, isOver, size, changed, endingAs, when, isAt, multiplied, opened, chainedBy, appliedBy, isDue, arrived, spending, triedBy, dueBy, stepBy, recordsBy, closed, chainRun, lookupRun}
 use Rattle.runs.specs.Spending.{Out, Stays, left, ends, leftOf, endOf, due-out, records-stays, closed-stays, chain-core}
+use Rattle.runs.specs.Met.{MetTry, MetRecords, MetMatch, MetLookup, Met}
 
 -- ---- left and tries
 
@@ -88,35 +89,6 @@ pub lookup-adds : (match : Lookup → Text → Match) (book : List Lookup) (d k 
 lookup-adds match book d k = applied-adds match (chainRun match book d) (chain-adds match book d) (lookupAt k book)
 
 -- ---- a due record that meets allowance 0
-
--- at a due record, by the depth and the allowance that are left; `met k x` says it of lookup k, tried on x
-abbrev pub MetTry : (ℕ → Run → Type 0) → ℕ → ℕ → Record → Stage → Type 0
-MetTry met depth zero r v = Unit {0}
-MetTry met zero (suc left) r v = ⊥
-MetTry met (suc depth) (suc left) r v = met (r .lookup) (spending left (v .run))
-
--- at one of the records, as the ones before it left the level
-unfoldable pub MetRecords : (ℕ → Run → Type 0) → (ℕ → Run → Run) → ℕ → List Record → Stage → Type 0
-MetRecords met lookup depth [] v = ⊥
-MetRecords met lookup depth (r ∷ rs) v =
-    ((isDue r v ≡ true) × MetTry met depth (v .run .left) r (arrived r v)) ⊎ MetRecords met lookup depth rs (stepBy lookup depth r v)
-
-abbrev pub MetMatch : (Stage → Type 0) → Match → Run → Type 0
-MetMatch met (Matched positions end) x = met (opened positions end x)
-MetMatch met Unmatched x = ⊥
-
--- only a chain has records
-abbrev pub MetLookup : (Lookup → Text → Match) → (List Record → Stage → Type 0) → Found → Run → Type 0
-MetLookup match met (Is (Kind1 props from to)) x = ⊥
-MetLookup match met (Is (Kind2 props from ids)) x = ⊥
-MetLookup match met (Is (Kind3 props first back input ahead records)) x =
-    MetMatch (met records) (match (Kind3 props first back input ahead records) (x .text)) x
-MetLookup match met None x = ⊥
-
--- a due record of the level, or of a level below it, met allowance 0
-unfoldable pub Met : (Lookup → Text → Match) → List Lookup → ℕ → List Record → Stage → Type 0
-Met match book zero rs v = MetRecords (λ k x. ⊥) (λ k x. x) zero rs v
-Met match book (suc d) rs v = MetRecords (λ k. MetLookup match (Met match book d) (lookupAt k book)) (lookupRun match book d) (suc d) rs v
 
 -- what ends Short was Short before or met allowance 0; and what met it is Short with nothing left
 pub record Told {X : Type 0} (leftIn : X → ℕ) (endIn : X → Ending) (f : X → X) (met : X → Type 0) : Type 0 where

@@ -21,19 +21,19 @@ use Rattle.matching.specs.Shift.{raisedAll}
 use Rattle.matching.specs.declared.ContextMatch.{ContextMatch}
 use Rattle.runs.specs.Repair.{Level}
 use Rattle.matching.specs.Matchers.{inputOn, aheadOn, backOn}
-use Rattle.matching.specs.Answers.{slotted, inputTold, contextTold}
+use Rattle.matching.specs.Answers.{slotted, inputTold, contextTold, isMatched, endOf, isFound}
 use Rattle.book.specs.declared.Part.{Part}
 use Rattle.book.specs.declared.Entry.{Entry}
 use Rattle.book.specs.Places.{widened, partOf}
 use Rattle.runs.specs.declared.Given.{Given}
 use Rattle.book.specs.Widened.{widened-values}
-use Rattle.runs.specs.Run.{Match, Matched, Unmatched}
+use Rattle.runs.specs.Run.{Match, Matched, Unmatched, movedLevel}
 use Rattle.runs.specs.Chain.{asks, isTaken, inputAt, afterInput, chainMatch}
 use Rattle.levels.specs.declared.Slots.{Slots}
-use Rattle.levels.specs.Slots.{shown, movedLevel}
+use Rattle.levels.specs.Slots.{shown}
 use Rattle.steps.specs.declared.Aim.{Aim}
 use Rattle.steps.specs.State.{noAim, aimAt, matchOn, aimedAt}
-use Rattle.steps.specs.Shifts.{isMatched, endOf, isFound, found-taken, Shown, input-lost, context-is, level-is}
+use Rattle.steps.specs.Shifts.{found-taken, Shown, input-lost, context-is, level-is}
 
 -- a matcher is handed the first slots of what was widened, `wide[0..n]`
 pub values-are : (wide values : List ℕ) → wide ≡ widened values → take (length values - 0) wide ≡ values

@@ -22,34 +22,15 @@ use Rattle.matching.specs.declared.InputMatch.{InputMatch}
 use Rattle.matching.specs.declared.ContextMatch.{ContextMatch}
 use Rattle.matching.specs.Take.{slots, Way, ahead, Outcome, taken, lost, unlike, reached}
 use Rattle.matching.specs.Matchers.{inputOn, inputBy, aheadOn, backOn}
-use Rattle.matching.specs.Answers.{slotted, matchedAt, inputTold, contextTold}
+use Rattle.matching.specs.Answers.{slotted, matchedAt, inputTold, contextTold, isMatched, endOf, isFound}
 use Rattle.matching.specs.Demand2Laws.{demand-2}
 use Rattle.matching.specs.Rising.{as-many, end-inside}
 use Rattle.matching.specs.Shift.{raisedAll, raisedBy, reached-shift, input-shift, ahead-shift}
 use Rattle.runs.specs.Repair.{Level}
-use Rattle.runs.specs.Run.{Match, Matched, Unmatched}
+use Rattle.runs.specs.Run.{Match, Matched, Unmatched, fromDone, movedLevel}
 use Rattle.runs.specs.Chain.{isTaken, inputAt, aheadAt, backAt, endAfter, contextMatched, afterInput}
-use Rattle.levels.specs.Slots.{fromDone, movedLevel}
 
 -- ---- answers, by their cases
-
-abbrev pub isMatched : InputAnswer → Bool
-isMatched (InputAnswer.Matched end total) = true
-isMatched (InputAnswer.Refused why) = false
-isMatched (InputAnswer.Lost extent) = false
-isMatched InputAnswer.Ligature = false
-
--- the end of a match, else 0
-abbrev pub endOf : InputAnswer → ℕ
-endOf (InputAnswer.Matched end total) = end
-endOf (InputAnswer.Refused why) = 0
-endOf (InputAnswer.Lost extent) = 0
-endOf InputAnswer.Ligature = 0
-
-abbrev pub isFound : ContextMatch → Bool
-isFound (ContextMatch.Matched place) = true
-isFound (ContextMatch.Refused why) = false
-isFound (ContextMatch.Lost extent) = false
 
 pub found-taken : (way : Way) (p : ℕ) (o : Outcome) → isFound (contextTold way p o) ≡ isTaken o
 found-taken way p (taken qs) = refl

@@ -1,4 +1,4 @@
--- A run as the code keeps it: two rows, a state and a level in slots. What each step of the code makes of them, as a run over a text.
+-- The code's side: a run as the code keeps it: two rows, a state and a level in slots. What each step of the code makes of them, as a run over a text.
 use mathlib.Core.Path.{_≡_}
 use mathlib.Core.Bool.{Bool, true, false, cond, not, _&&_}
 use mathlib.Core.List.{List, [], _∷_}
@@ -13,9 +13,8 @@ use Rattle.book.specs.Places.{partOf}
 use Rattle.runs.specs.declared.Ending.{Ending}
 use Rattle.runs.specs.declared.Ending.the-variants.{Finished, Short, Deep, Full}
 use Rattle.runs.specs.declared.Given.{Given}
-use Rattle.runs.specs.Repair.{Level}
-use Rattle.runs.specs.Run.{Run, Stage, Match, Matched, Unmatched, isOver, changed, when, isAt, multiplied, isDue, arrived, stopped, spending}
-use Rattle.runs.specs.Rises.{Sound}
+use Rattle.runs.specs.Repair.{Level, Sound}
+use Rattle.runs.specs.Run.{Run, Stage, Match, Matched, Unmatched, isOver, changed, when, isAt, multiplied, isDue, arrived, stopped, spending, mostAllowance}
 use Rattle.runs.specs.Chain.{chainMatch, inputAt, afterInput}
 use Rattle.matching.specs.declared.Lookup.{Lookup as Question}
 use Rattle.glyph.specs.Glyph.{blank}
@@ -24,10 +23,6 @@ use Rattle.levels.specs.Slots.{levelOf, shown, Neat}
 use Rattle.steps.specs.declared.State.{State}
 use Rattle.steps.specs.declared.Ready.{Ready}
 use Rattle.steps.specs.declared.Aim.{Aim}
-
--- refusal 12: an allowance over this
-abbrev pub mostAllowance : ℕ
-mostAllowance = 2147483647
 
 -- the run that two rows and a state hold
 abbrev pub runOf : List ℕ → List ℕ → State → Run

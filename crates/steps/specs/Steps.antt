@@ -16,8 +16,7 @@ use Rattle.text.specs.Changes.{size-is, at-cursor}
 use Rattle.text.specs.Laws.{sizes}
 use Rattle.runs.specs.declared.Ending.{Ending}
 use Rattle.runs.specs.declared.Ending.the-variants.{Finished, Short, Deep, Full}
-use Rattle.runs.specs.Repair.{Level}
-use Rattle.runs.specs.Rises.{Sound}
+use Rattle.runs.specs.Repair.{Level, Sound}
 use Rattle.runs.specs.Kept.{due-shows}
 use Rattle.runs.specs.Run.{Run, Stage, isOver, size, changed, endingAs, when, isAt, multiplied, isDue, arrived, placeOf, stopped, spending}
 use Rattle.levels.specs.declared.Slots.{Slots}

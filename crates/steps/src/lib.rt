@@ -19,12 +19,12 @@ ghost use Rattle.glyph.specs.Glyph.{limit, glyphsOf};
 ghost use Rattle.text.specs.Text.{textOf, sizeOf, Fits};
 ghost use Rattle.verdict.specs.declared.Test.{Test};
 ghost use Rattle.matching.specs.Matchers.{inputOn, aheadOn, backOn};
-ghost use Rattle.matching.specs.Answers.{inputTold};
+ghost use Rattle.matching.specs.Answers.{inputTold, isMatched, endOf, isFound};
 ghost use Rattle.book.specs.Inside.{Good};
 ghost use Rattle.runs.specs.Chain.{asks, isTaken};
 ghost use Rattle.levels.specs.Slots.{levelOf, Neat};
-ghost use Rattle.steps.specs.State.{mostAllowance, runOf, stageOf, Ran, Able, at, isDueAt, stoppedAs, judgedAt, readied, Prepared, closedAt, oneOn, manyOn, actedBy, noAim, aimAt, matchOn, aimedAt};
-ghost use Rattle.steps.specs.Shifts.{isMatched, endOf, isFound};
+ghost use Rattle.steps.specs.State.{runOf, stageOf, Ran, Able, at, isDueAt, stoppedAs, judgedAt, readied, Prepared, closedAt, oneOn, manyOn, actedBy, noAim, aimAt, matchOn, aimedAt};
+ghost use Rattle.runs.specs.Run.{mostAllowance};
 
 // A run under way: where the text is parted, the allowance that is left, the lookups tried so far, and how it would end now.
 pub struct State {

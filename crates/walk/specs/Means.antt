@@ -1,4 +1,4 @@
--- What each answer of a walk means, for any judge of places: which place decided, and that every place between is passed over.
+-- What each answer of a walk means, for any judge of places: which place decided, and that every place between is passed over (01, port order 4).
 use Prim.Native.Nat.{ℕ, _+_, _-_, _≤_, _<_, max}
 use mathlib.Core.Path.{_≡_}
 use Rattle.verdict.specs.declared.Verdict.{Verdict}

@@ -4,11 +4,11 @@ use mathlib.Core.Path.{_≡_, refl}
 use mathlib.Core.List.{map}
 use Prim.Native.Nat.{ℕ, _≤_, _<_, _-_}
 use lib.ListN.{length, getD, take, length-set}
-use Rattle.levels.specs.Slots.{fromDone}
 use Rattle.levels.specs.Laws.{filled-more, filled-all, open-many, limit-fits}
 use Rattle.levels.specs.Repairs.{opened-is}
 use Rattle.levels.proofs.open.Statement.{statement}
 use Rattle.levels.proofs.open.Tie as tie
+use Rattle.runs.specs.Run.{fromDone}
 
 abbrev Inv-loop : tie.InvT-loop
 Inv-loop places count end idx d out₀ j₀ out j = (j ≤ 64) × (length out ≡ 64) × ((k : ℕ) → k < j → getD out k 0 ≡ getD (map (fromDone idx d) (take count places)) k 0)

@@ -1,8 +1,8 @@
 -- The tests are the definition's. Assumes nothing.
-use Rattle.ligature.specs.Ligature.{baseNeeded}
 use borrow.Author.Needs.{needs}
 use Rattle.ligature.proofs.is_base_needed.Statement.{statement}
 use Rattle.ligature.proofs.is_base_needed.Tie as tie
+use Rattle.ligature.specs.Search.{baseNeeded}
 
 is-attached-requires : tie.Need-is-attached-requires
 is-attached-requires c κs = search needs

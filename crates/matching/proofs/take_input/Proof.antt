@@ -18,13 +18,14 @@ use Rattle.walk.specs.declared.Walked.the-variants.{Found, Refused}
 use Rattle.walk.specs.Walk.{walkFrom}
 use Rattle.ligature.specs.declared.Ligbase.{Ligbase}
 use Rattle.matching.specs.Take.{ahead, Outcome, unlike, having, follow, takes}
-use Rattle.ligature.specs.Ligature.{mayJoin, baseSkips, baseNeeded, maySkip}
+use Rattle.ligature.specs.Ligature.{mayJoin, baseSkips}
 use Rattle.ligature.specs.Laws.{Known, looked-known, looked-serves}
 use Rattle.matching.specs.Matchers.{judge, joins, inputBy}
 use Rattle.matching.specs.Answers.{slotted, inputTold}
 use Rattle.matching.specs.Going.{Going, going-none, going-more, going-done, turn, Within, walk-within}
 use Rattle.matching.proofs.take_input.Statement.{statement}
 use Rattle.matching.proofs.take_input.Tie as tie
+use Rattle.ligature.specs.Search.{baseNeeded, maySkip}
 
 abbrev Inv-loop : tie.InvT-loop
 Inv-loop searched text idx m sets test values len first positions₀ total₀ base₀ next₀ i₀ positions total base next i =

@@ -16,7 +16,8 @@ use Rattle.steps.specs.declared.State.{State}
 use Rattle.steps.specs.State.{stageOf, Able}
 use Rattle.nested.specs.Levels.{Indexed}
 use Rattle.nested.specs.Cycle.{entry-good, look-hit, look-miss, aim-sound}
-use Rattle.nested.specs.Turns.{recordAt, ready-neat, tried-deep, tried-inside, tried-few, tried-sound, tried-index, nestedAt, still-able, turn-rest, turn-go, records-turn, records-over, closed-is, closed-level, glyph-there, size-within, neat-is}
+use Rattle.nested.specs.CallLaws.{level-neat}
+use Rattle.nested.specs.Turns.{recordAt, ready-neat, tried-deep, tried-inside, tried-few, tried-sound, tried-index, nestedAt, still-able, turn-rest, turn-go, records-turn, records-over, closed-is, closed-level, glyph-there, size-within}
 use Prim.Native.Nat.{ℕ, _<_, _≤_, _+_, _-_}
 use borrow.Fn.Kinds.{In}
 use borrow.Fn.PlainCycle.{Measures, is, falls, and}
@@ -163,7 +164,7 @@ chain-loop-again t c = let a = c .before .before .before .before .before .before
     ⊎-elim (λ w.
     let lev = w .12 .ensures ∙ ap₂ (λ (x y : ℕ). shown (repaired (getD (a .recs .now) (l .i) 0) x y (levelOf (p .result .level)))) (w .2 .ensures) (w .11 .ensures) in
     rw (w .13, w .14, w .15, w .16) (turn (w .5 .last .0) (w .5 .last .1 .0) (w .5 .result) (w .12 .result) (w .5 .kept .0 ∙ p .kept .0 ∙ l .inv .0) (w .5 .kept .1 .0 ∙ p .kept .1 .0 ∙ l .inv .1)
-    (turn-go (a .given) (a .sets .now) (a .book .now) (a .depth) (a .recs .now) (l .i) lt (l .done) (l .coming) (l .st) (l .lv) (l .inv .3) (p .last .0) (p .last .1 .0) (p .result) (p .ensures) (w .0 .taken) (w .5 .last .0) (w .5 .last .1 .0) (w .5 .result) (w .12 .result) (w .5 .ensures) lev) (neat-is (w .12 .result) (repaired (getD (a .recs .now) (l .i) 0) (sizeOf (p .result .state .place)) (sizeOf (w .5 .result .place)) (levelOf (p .result .level))) lev) (w .5 .ensures .fits))) (λ w.
+    (turn-go (a .given) (a .sets .now) (a .book .now) (a .depth) (a .recs .now) (l .i) lt (l .done) (l .coming) (l .st) (l .lv) (l .inv .3) (p .last .0) (p .last .1 .0) (p .result) (p .ensures) (w .0 .taken) (w .5 .last .0) (w .5 .last .1 .0) (w .5 .result) (w .12 .result) (w .5 .ensures) lev) (level-neat (w .12 .result) (repaired (getD (a .recs .now) (l .i) 0) (sizeOf (p .result .state .place)) (sizeOf (w .5 .result .place)) (levelOf (p .result .level))) lev) (w .5 .ensures .fits))) (λ w.
     rw (w .1, w .2, w .3, w .4) (turn (p .last .0) (p .last .1 .0) (p .result .state) (p .result .level) (p .kept .0 ∙ l .inv .0) (p .kept .1 .0 ∙ l .inv .1)
     (turn-rest (a .given) (a .sets .now) (a .book .now) (a .depth) (a .recs .now) (l .i) lt (l .done) (l .coming) (l .st) (l .lv) (l .inv .3) (p .last .0) (p .last .1 .0) (p .result) (p .ensures) (w .0 .left)) (ready-neat (a .depth) r (l .done) (l .coming) (l .st) (l .lv) (l .inv .3) (p .last .0) (p .last .1 .0) (p .result) (p .ensures)) (p .ensures .ran .fits))) (c .if1 .came)
 

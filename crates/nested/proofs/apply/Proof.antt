@@ -3,12 +3,9 @@ use mathlib.Core.Path.{_≡_, sym, _∙_}
 use borrow.Author.Tests.{not-true, not-false}
 use lib.ListN.{take}
 use Rattle.text.specs.Text.{textOf}
-use Rattle.book.specs.Book.{recordsOf}
-use Rattle.runs.specs.Run.{begun, chainRun}
+use Rattle.book.specs.Book.{recordsOf, lookupsOf}
+use Rattle.runs.specs.Run.{begun, chainRun, movedLevel}
 use Rattle.runs.specs.Chain.{chainMatch}
-use Rattle.levels.specs.Slots.{movedLevel}
-use Rattle.nested.specs.Levels.{lookupsOf}
-use Rattle.steps.specs.Shifts.{endOf}
 use Rattle.nested.specs.Calls.{runSays}
 use Rattle.nested.specs.declared.Refusal.the-variants.{Match}
 use Rattle.nested.specs.CallLaws.{said-refused, said-whole, match-bad, match-good, end-is, places-show, open-asks, level-neat, level-sound, first-sound, whole-first}
@@ -16,6 +13,7 @@ use Rattle.nested.proofs.Cases.{other}
 use borrow.Author.Needs.{needs}
 use Rattle.nested.proofs.apply.Statement.{statement}
 use Rattle.nested.proofs.apply.Tie as tie
+use Rattle.matching.specs.Answers.{endOf}
 
 enum-known-answer : tie.Need-enum-known-answer
 enum-known-answer c = search needs

@@ -3,7 +3,8 @@ use mathlib.Core.Path.{_≡_, sym, ap, subst, _∙_}
 use borrow.Author.Tests.{not-true, not-false}
 use Rattle.book.specs.declared.Index.{Index}
 use Rattle.nested.specs.declared.Refusal.the-variants.{Book}
-use Rattle.nested.specs.CallLaws.{said-refused, said-same, all-first, all-book, all-match, first-shows, index-reads, index-is}
+use Rattle.book.specs.Starts.{index-reads}
+use Rattle.nested.specs.CallLaws.{said-refused, said-same, all-first, all-book, all-match, first-shows, index-is}
 use borrow.Author.Needs.{needs}
 use Rattle.nested.proofs.run.Statement.{statement}
 use Rattle.nested.proofs.run.Tie as tie

@@ -10,14 +10,15 @@ use Rattle.glyph.specs.Glyph.{glyphsOf}
 use Rattle.text.specs.Laws.{sizes}
 use Rattle.verdict.specs.declared.Test.{Test}
 use Rattle.matching.specs.Matchers.{inputOn, aheadOn, backOn}
-use Rattle.matching.specs.Answers.{inputTold}
+use Rattle.matching.specs.Answers.{inputTold, endOf}
 use Rattle.runs.specs.Chain.{isTaken}
-use Rattle.levels.specs.Slots.{shown, movedLevel}
-use Rattle.steps.specs.Shifts.{endOf, Shown, input-shown}
+use Rattle.levels.specs.Slots.{shown}
+use Rattle.steps.specs.Shifts.{Shown, input-shown}
 use Rattle.steps.specs.Aims.{aim-other, aim-lost, aim-behind, aim-ahead, aim-hit, open-asks}
 use borrow.Author.Needs.{needs}
 use Rattle.steps.proofs.match_chain.Statement.{statement}
 use Rattle.steps.proofs.match_chain.Tie as tie
+use Rattle.runs.specs.Run.{movedLevel}
 
 -- what input matching answered, of the first d glyphs of `done`
 module _ (c : tie.After-match-values) where
