@@ -1,1 +1,3 @@
 pub mod Walker
+pub mod Nth
+pub mod Going

@@ -5,7 +5,7 @@ use verdict::Sign;
 use walk::Walked;
 ghost use mathlib.Core.Path.{_≡_};
 ghost use Rattle.walk.specs.Calls.{forwardOf, backwardOf};
-ghost use Rattle.walker.specs.Walker.{placeAfter};
+ghost use Rattle.walker.specs.Walker.{placeAfter, nthOf};
 
 pub struct Walker<'a> {
     pub row: &'a [u32],
@@ -51,7 +51,10 @@ pub fn prev<'a>(w: Walker<'a>, m: Matcher, sign: Sign, syllable: u8, sets: &[u16
 pub fn follow<'a>(w: Walker<'a>, walked: Walked) -> Walker<'a>
     ensures { λ r. ⌜ (r .row ≡ w .entry .row) × (r .place ≡ placeAfter (w .entry .place) walked) ⌝ }
 {
-    Walker { row: w.row, place: place_after(w.place, walked) }
+    Walker {
+        row: w.row,
+        place: place_after(w.place, walked),
+    }
 }
 
 fn place_after(place: usize, walked: Walked) -> usize
@@ -78,4 +81,30 @@ pub fn step(
     ensures { λ r. ⌜ r ≡ forwardOf (now (row .entry)) len place m sign syllable (now (sets .entry)) ⌝ }
 {
     next(new(row, place), len, m, sign, syllable, sets)
+}
+
+// The match after n others, a step each; or the answer of the first step that finds none.
+pub fn nth(
+    row: &[u32],
+    len: usize,
+    place: usize,
+    n: usize,
+    m: Matcher,
+    sign: Sign,
+    syllable: u8,
+    sets: &[u16],
+) -> Walked
+    ensures { λ r. ⌜ r ≡ nthOf (now (row .entry)) len place n m sign syllable (now (sets .entry)) ⌝ }
+{
+    let mut at = place;
+    let mut left = n;
+    while 0 < left {
+        let walked = step(row, len, at, m, sign, syllable, sets);
+        let Walked::Found(q) = walked else {
+            return walked;
+        };
+        at = q;
+        left -= 1;
+    }
+    step(row, len, at, m, sign, syllable, sets)
 }

@@ -1,0 +1,19 @@
+-- Several steps a step at a time: what a turn of the code's loop does, and where it ends.
+use Prim.Native.Nat.{ℕ, suc}
+use mathlib.Core.Path.{_≡_, refl, ap}
+use mathlib.Core.List.{List}
+use Rattle.verdict.specs.declared.Matcher.{Matcher}
+use Rattle.verdict.specs.declared.Sign.{Sign}
+use Rattle.walk.specs.Calls.{forwardOf}
+use Rattle.walker.specs.Walker.{onward, nthOf}
+
+module _ (row : List ℕ) (len place : ℕ) (m : Matcher) (sign : Sign) (syllable : ℕ) (sets : List ℕ) where
+  pub nth-on : (n k : ℕ) → n ≡ suc k
+      → nthOf row len place n m sign syllable sets
+      ≡ onward (forwardOf row len place m sign syllable sets) (λ q. nthOf row len q k m sign syllable sets)
+  unfolding nthOf
+  nth-on n k e = ap (λ (j : ℕ). nthOf row len place j m sign syllable sets) e
+
+  pub nth-end : (n : ℕ) → n ≡ 0 → nthOf row len place n m sign syllable sets ≡ forwardOf row len place m sign syllable sets
+  unfolding nthOf
+  nth-end n e = ap (λ (j : ℕ). nthOf row len place j m sign syllable sets) e
