@@ -15,7 +15,6 @@ use base.Logic.{ent, sep}
 use base.Fml.{Lft, Fml}
 use prog.Wp.{Heap}
 use ghost.Atoms.{Atoms, sem}
-use contract.Lifetimes.{Lfts}
 use types.Kit.{Given, ‵, _⊛_, _$_, _∵_, !, qed, move, use1, split, fsplit, fjoin, frame, done}
 use denote.RattleType.{RattleType, Valss, owns}
 use denote.Laws.{Ises, Spells, Tellss}

@@ -1,11 +1,18 @@
--- Where a walker stands after a step, and the answer of several steps in a row (01, port order 4: the walker that keeps the row it walks).
+-- A walker, where it stands after a step, and the answer of several steps in a row (01, port order 4: the walker that keeps the row it walks).
+-- A step's answer is the walk's own, on the walker's row and place.
 use Prim.Native.Nat.{ℕ, zero, suc}
 use mathlib.Core.List.{List}
+use denote.Ref.{RefT}
 use Rattle.verdict.specs.declared.Matcher.{Matcher}
 use Rattle.verdict.specs.declared.Sign.{Sign}
 use Rattle.walk.specs.declared.Walked.{Walked}
 use Rattle.walk.specs.declared.Walked.the-variants.{Found, Stopped, RanOut, Refused}
 use Rattle.walk.specs.Calls.{forwardOf}
+use Rattle.walker.specs.declared.Walker.{Walker}
+
+-- the walker of a row that stands at a place
+abbrev pub standing : RefT (List ℕ) → ℕ → Walker
+standing row place = record { row = row; place = place }
 
 -- at the place found, and else where it stood
 abbrev pub placeAfter : ℕ → Walked → ℕ

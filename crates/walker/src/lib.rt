@@ -1,11 +1,11 @@
-// A walker: it keeps the row that it walks, and the place where it stands. Each function over it takes it apart and calls a walk on the row and the
-// place.
+// A walker keeps the row that it walks and the place where it stands, as the original's `SkippingIterator` does. It goes by value: a step takes it
+// apart, calls the walk and answers, and `follow` is the walker that went there.
 use verdict::Matcher;
 use verdict::Sign;
 use walk::Walked;
 ghost use mathlib.Core.Path.{_≡_};
 ghost use Rattle.walk.specs.Calls.{forwardOf, backwardOf};
-ghost use Rattle.walker.specs.Walker.{placeAfter, nthOf};
+ghost use Rattle.walker.specs.Walker.{standing, placeAfter, nthOf};
 
 pub struct Walker<'a> {
     pub row: &'a [u32],
@@ -14,14 +14,14 @@ pub struct Walker<'a> {
 
 // A walker that stands at a place of a row.
 pub fn new<'a>(row: &'a [u32], place: usize) -> Walker<'a>
-    ensures { λ r. ⌜ (r .row ≡ row .entry) × (r .place ≡ place) ⌝ }
+    ensures { λ r. ⌜ r ≡ standing (row .entry) place ⌝ }
 {
     Walker { row, place }
 }
 
 // The same row, from another place.
 pub fn reset<'a>(w: Walker<'a>, place: usize) -> Walker<'a>
-    ensures { λ r. ⌜ (r .row ≡ w .entry .row) × (r .place ≡ place) ⌝ }
+    ensures { λ r. ⌜ r ≡ standing (w .entry .row) place ⌝ }
 {
     Walker { row: w.row, place }
 }
@@ -49,7 +49,7 @@ pub fn prev<'a>(w: Walker<'a>, m: Matcher, sign: Sign, syllable: u8, sets: &[u16
 
 // The walker after a step with this answer: at the place found, and else where it stood.
 pub fn follow<'a>(w: Walker<'a>, walked: Walked) -> Walker<'a>
-    ensures { λ r. ⌜ (r .row ≡ w .entry .row) × (r .place ≡ placeAfter (w .entry .place) walked) ⌝ }
+    ensures { λ r. ⌜ r ≡ standing (w .entry .row) (placeAfter (w .entry .place) walked) ⌝ }
 {
     Walker {
         row: w.row,
@@ -83,7 +83,7 @@ pub fn step(
     next(new(row, place), len, m, sign, syllable, sets)
 }
 
-// The match after n others, a step each; or the answer of the first step that finds none.
+// The match after n others (after none: the first), a step each; or the answer of the first step that finds none.
 pub fn nth(
     row: &[u32],
     len: usize,

@@ -18,7 +18,7 @@ use ghost.Atoms.{Atoms, sem}
 use contract.Lifetimes.{Lfts}
 use contract.Monad.{Fun, fact}
 use contract.Running.{givenOf, tables, tablesOf}
-use types.Kit.{Given, ‵, raw, _⊛_, ⋆, some, later, _$_, _∵_, !, qed, by, move, drop, use1, use2, split, join, pick, fsplit, fjoin, suffices, frame, await, rewrite, done}
+use types.Kit.{Given, ‵, raw, _⊛_, some, later, _$_, _∵_, !, qed, by, move, drop, use1, use2, split, join, pick, fsplit, fjoin, suffices, frame, await, rewrite, done}
 use types.Part.{whole, sub, look-in, agg}
 use types.Run.{look, init, forget, stop, fld, from, load, of-opd, and-then, no-more, assigns, land, returns, enter, alloc1, alloc0, params1, pass1, pass0, free1, free0}
 use sound.WpLaws.{FmC, fmOf, WpFn-mono}
@@ -104,7 +104,7 @@ module _ {M : Type 1} (𝓤 : URA M) (H : Heap 𝓤) (A : Atoms 𝓤) (W : Given
   exits : (n : ℕ) → n < 2 ^ 64 → n ≡ placeAfter (d .place) a → ent 𝓤 (onEntry 𝓤 H A follow.signature (κ, tt) (q, tt) (d, (a, tt)) at) (Post (T′.lowered (at-place n)))
   exits n ok e =
       qed W ((‵ (flft κ q) ⊛ ‵ ftrue) ∷ ‵ (owns (B (κ, tt) ∷ R.the-row ∷ []) (d, (a, tt)) at) ∷ []) ∵
-      suffices ! _ (ends-at 𝓤 H A follow.ended stayed (follow.clauses 𝓤 H A mem run) W (((κ, tt), (q, tt), tt, (d, (a, tt)), at), tt) (T′.lowered (at-place n)) (at-place n) (tt, (tt, tt)) (tt, (tt, tt))) $ says ! (refl, e) $
+      suffices ! _ (ends-at 𝓤 H A follow.ended stayed (follow.clauses 𝓤 H A mem run) W (((κ, tt), (q, tt), tt, (d, (a, tt)), at), tt) (T′.lowered (at-place n)) (at-place n) (tt, (tt, tt)) (tt, (tt, tt))) $ says ! (ap at-place e) $
       frame ! $ fsplit ! $ use1 W (‵ Own ⊛ ‵ Own) (LL.copy (T.the-type (namedLft 1 0 tt (κ, tt))) (T′.the-copy (namedLft 1 0 tt (κ, tt))) 𝓤 H A W .twice d (mach ∷ [])) $ split ! $ move ! (0 ∷ 2 ∷ []) $ fjoin ! $ frame ! $
       -- [what the walker owns]: the facts of the place that came back stand in for the old one's
       owned ! usize (Is usize) (uint-makes 𝓤 H A W w64) n _ (refl, ok) $ move ! (1 ∷ 0 ∷ []) $ by ! (own-put 𝓤 H A W (T.the-type (namedLft 1 0 tt (κ, tt))) (T′.the-laws (namedLft 1 0 tt (κ, tt))) 1 (d .row, (d .place, tt)) n mach)

@@ -57,7 +57,7 @@ use Rattle.walk.proofs.forward.Symbol.{name as #walk·forward}
 use Rattle.walk.proofs.forward.Met as forward-thm
 use Rattle.walker.specs.declared.Walker.{Walker}
 use Rattle.walker.proofs.Asked as asked
-use Rattle.walker.proofs.Asked.{Asked, mv, gv, yv, sv}
+use Rattle.walker.proofs.Asked.{Asked, mv, gv, sv}
 use Rattle.walker.proofs.Walker as T
 use Rattle.walker.proofs.Walker.Laws as T′
 use Rattle.walker.proofs.next.Key.{name as #walker·next}

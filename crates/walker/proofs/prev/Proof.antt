@@ -57,7 +57,7 @@ use Rattle.walk.proofs.backward.Symbol.{name as #walk·backward}
 use Rattle.walk.proofs.backward.Met as backward-thm
 use Rattle.walker.specs.declared.Walker.{Walker}
 use Rattle.walker.proofs.Asked as asked
-use Rattle.walker.proofs.Asked.{Asked, mv, gv, yv, sv}
+use Rattle.walker.proofs.Asked.{Asked, mv, gv, sv}
 use Rattle.walker.proofs.Walker as T
 use Rattle.walker.proofs.Walker.Laws as T′
 use Rattle.walker.proofs.prev.Key.{name as #walker·prev}

@@ -1,5 +1,5 @@
 -- `walker::reset` meets its contract: a walk of its MIR, by hand. A struct is made anew of the row that the one passed holds, and another place.
--- The struct is Copy: what it owns is had twice, one copy is kept whole for the exit, and the other, with the facts of the number in place of the old one’s, is what the result owns.
+-- The struct is Copy: what it owns is had twice, one copy is kept whole for the exit, and the other, with the facts of the new place for the old one's, is what the result owns.
 -- Assumes nothing.
 use mathlib.Core.Path.{refl}
 use Prim.Native.Nat.{ℕ, _<_, _^_}
@@ -68,9 +68,9 @@ module _ {M : Type 1} (𝓤 : URA M) (H : Heap 𝓤) (A : Atoms 𝓤) (W : Given
   exits : ent 𝓤 (onEntry 𝓤 H A reset.signature (κ, tt) (q, tt) (d, (n, tt)) at) (Post (T′.lowered d′))
   exits =
       qed W ((‵ (flft κ q) ⊛ ‵ ftrue) ∷ ‵ (owns (B (κ, tt) ∷ usize ∷ []) (d, (n, tt)) at) ∷ []) ∵
-      suffices ! _ (ends-at 𝓤 H A reset.ended stayed (reset.clauses 𝓤 H A mem run) W (((κ, tt), (q, tt), tt, (d, (n, tt)), at), tt) (T′.lowered d′) d′ (tt, (tt, tt)) (tt, (tt, tt))) $ says ! (refl, refl) $
+      suffices ! _ (ends-at 𝓤 H A reset.ended stayed (reset.clauses 𝓤 H A mem run) W (((κ, tt), (q, tt), tt, (d, (n, tt)), at), tt) (T′.lowered d′) d′ (tt, (tt, tt)) (tt, (tt, tt))) $ says ! refl $
       frame ! $ fsplit ! $ use1 W (‵ Own ⊛ ‵ Own) (LL.copy (T.the-type (namedLft 1 0 tt (κ, tt))) (T′.the-copy (namedLft 1 0 tt (κ, tt))) 𝓤 H A W .twice d (mach ∷ [])) $ split ! $ move ! (0 ∷ 2 ∷ []) $ fjoin ! $ frame ! $
-      -- [what the struct owns]: the number's facts take the place of the old one’s
+      -- [what the struct owns]: the facts of the new place stand in for the old one's
       owned ! usize (Is usize) (uint-makes 𝓤 H A W w64) n _ (refl, ok) $ move ! (1 ∷ 0 ∷ []) $ by ! (own-put 𝓤 H A W (T.the-type (namedLft 1 0 tt (κ, tt))) (T′.the-laws (namedLft 1 0 tt (κ, tt))) 1 (d .row, (d .place, tt)) n mach)
 
   module _ (C : Calls 𝓤 H) (Λ : Loops 𝓤 H) where

@@ -46,9 +46,10 @@ use Rattle.walk.specs.Calls.{forwardOf}
 use Rattle.walk.specs.declared.Walked.{Walked}
 use Rattle.walk.proofs.Walked as R
 use Rattle.walk.proofs.Walked.Laws as R′
+use Rattle.walker.specs.Walker.{standing}
 use Rattle.walker.specs.declared.Walker.{Walker}
 use Rattle.walker.proofs.Asked as asked
-use Rattle.walker.proofs.Asked.{Asked, mv, gv, yv, sv}
+use Rattle.walker.proofs.Asked.{Asked, mv, gv, sv}
 use Rattle.walker.proofs.Walker as T
 use Rattle.walker.proofs.Walker.Laws as T′
 use Rattle.walker.proofs.new as new
@@ -126,8 +127,8 @@ module _ {M : Type 1} (𝓤 : URA M) (H : Heap 𝓤) (A : Atoms 𝓤) (W : Given
       nothing ! $ move ! (1 ∷ 0 ∷ []) $ fjoin ! $ move ! (2 ∷ 0 ∷ []) $ fjoin ! $ move ! (5 ∷ 4 ∷ []) $ join ! $
       use2 W (raw (New 𝓤 H A mem run .pre to-new)) asks-new $ frame ! $ frame ! $ frame ! $ done !
 
-  new-said : (r : Walker) → ent 𝓤 (ensured 𝓤 H A new.ended (new.clauses 𝓤 H A mem run) (κ, tt) (s, (p, tt)) tt r) (fact 𝓤 ((r .row ≡ s) × (r .place ≡ p)))
-  new-said r = exE 𝓤 _ (λ ws. snd∗ 𝓤 (sem 𝓤 H A (lasts new.ended (κ, tt) (s, (p, tt)) ws)) (fact 𝓤 ((r .row ≡ s) × (r .place ≡ p))))
+  new-said : (r : Walker) → ent 𝓤 (ensured 𝓤 H A new.ended (new.clauses 𝓤 H A mem run) (κ, tt) (s, (p, tt)) tt r) (fact 𝓤 (r ≡ standing s p))
+  new-said r = exE 𝓤 _ (λ ws. snd∗ 𝓤 (sem 𝓤 H A (lasts new.ended (κ, tt) (s, (p, tt)) ws)) (fact 𝓤 (r ≡ standing s p)))
 
   -- the call of `next`, at the walker r with the machine value u
   abbrev to-next : Walker → Val → Next 𝓤 H A mem run .Ghost
@@ -169,7 +170,7 @@ module _ {M : Type 1} (𝓤 : URA M) (H : Heap 𝓤) (A : Atoms 𝓤) (W : Given
         move ! (18 ∷ []) $ use1 W (raw (New 𝓤 H A mem run .pre to-new) ⊛ ‵ Rest ⊛ ‵ Own ⊛ ‵ (flft κ′ q′)) goes-new $ split ! $
         calls-at ! fm (New 𝓤 H A mem run) known-new to-new (and-then ! (load ! (from ! (stop !)) (look ! 16 refl)) (and-then ! (load ! (from ! (stop !)) (look ! 12 refl)) (no-more !))) (λ u.
         use1 W (later (some (λ (r : Walker). ((‵ (flft κ q) ⊛ ‵ ftrue) ⊛ ‵ (B κs .own r (u ∷ []))) ⊛ raw (ensured 𝓤 H A new.ended (new.clauses 𝓤 H A mem run) (κ, tt) (s, (p, tt)) tt r)))) (id⊢ 𝓤 _) $ await ! tt $ pick ! (λ r.
-        split ! $ move ! (1 ∷ []) $ use1 W (raw (fact 𝓤 ((r .row ≡ s) × (r .place ≡ p)))) (new-said r) $ heard ! ((r .row ≡ s) × (r .place ≡ p)) (λ e. split ! $ move ! (1 ∷ []) $
+        split ! $ move ! (1 ∷ []) $ use1 W (raw (fact 𝓤 (r ≡ standing s p))) (new-said r) $ heard ! (r ≡ standing s p) (λ e. split ! $ move ! (1 ∷ []) $
         -- [what the walker owns; the token of row; what is kept; room for _8; …; _7; …; _6; …; _5; …; _4; …; _3; …; _2; …; _1; …; room for _0; …]
         peeks ! (B κs) (Is (B κs)) (shows 𝓤 H A (B κs)) r (u ∷ []) (λ is.
         land ! (from ! (stop !)) (init ! 3 refl (LL.lawful (T.the-type αᵉ) (T′.the-laws αᵉ) 𝓤 H A W .typed r _ is .0)) $
@@ -184,7 +185,7 @@ module _ {M : Type 1} (𝓤 : URA M) (H : Heap 𝓤) (A : Atoms 𝓤) (W : Given
         returns ! (look ! 19 refl) $ forget ! 3 refl $ forget ! 5 refl $ forget ! 7 refl $ forget ! 9 refl $ forget ! 11 refl $ forget ! 13 refl $ forget ! 15 refl $ forget ! 17 refl $ forget ! 19 refl $
         move ! (19 ∷ 20 ∷ []) $ free1 ! $ move ! (17 ∷ 18 ∷ []) $ free1 ! $ move ! (15 ∷ 16 ∷ []) $ free1 ! $ move ! (13 ∷ 14 ∷ []) $ free1 ! $ move ! (11 ∷ 12 ∷ []) $ free1 ! $
         move ! (9 ∷ 10 ∷ []) $ free1 ! $ move ! (7 ∷ 8 ∷ []) $ free1 ! $ move ! (5 ∷ 6 ∷ []) $ free1 ! $ move ! (3 ∷ 4 ∷ []) $ free1 ! $ free0 ! $
-        by ! (exits t u′ (e′ ∙ (ap (λ (y : RefT (List ℕ)). answer y (r .place)) (e .0) ∙ ap (answer s) (e .1)))))))))))))))))))))
+        by ! (exits t u′ (e′ ∙ ap (λ (w : Walker). answer (w .row) (w .place)) e)))))))))))))))))))
 
 module _ {M : Type 1} (𝓤 : URA M) (H : Heap 𝓤) (A : Atoms 𝓤) (W : Given 𝓤 H A) (mem : Memory → SProp 𝓤) (run : Routine → Fun 𝓤) where
   step-walks : (C : Calls 𝓤 H) (Λ : Loops 𝓤 H) → FmC 𝓤 H (W .laws) C → Triple 𝓤 (C #walker·new) (New 𝓤 H A mem run) → Triple 𝓤 (C #walker·next) (Next 𝓤 H A mem run)
