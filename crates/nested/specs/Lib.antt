@@ -4,3 +4,4 @@ pub mod Turns
 pub mod Calls
 pub mod CallLaws
 pub mod Decided
+pub mod Table
