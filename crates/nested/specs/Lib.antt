@@ -5,3 +5,4 @@ pub mod Calls
 pub mod CallLaws
 pub mod Decided
 pub mod Table
+pub mod Demand3
