@@ -4,7 +4,7 @@ use mathlib.Core.Path.{_≡_, refl}
 use Prim.Native.Nat.{ℕ}
 use Rattle.bits.specs.Bits.{every, some}
 use Rattle.digest.specs.Digest.{ranged}
-use Rattle.glyph.specs.Glyph.{blank, limit, glyphs, glyphsOf}
+use Rattle.glyph.specs.Glyph.{blank, limit, glyphs, glyphsOf, illShaped}
 use Rattle.glyph.specs.Sets.{inSet}
 use Rattle.verdict.specs.Matcher.{inputMatcher, contextMatcher, matcherOf}
 use Rattle.verdict.specs.Verdict.{skipYes, ignorable, skipOf, ruledOut, valueOf, matchOf, verdict}
@@ -13,6 +13,7 @@ use Rattle.matching.specs.Take.{takes, reached}
 use Rattle.ligature.specs.Ligature.{mayJoin, baseBefore, baseSkips}
 use Rattle.matching.specs.Matchers.{inputBy, inputOn, aheadOn, backOn}
 use Rattle.matching.specs.Answers.{ligated}
+use Rattle.matching.specs.Calls.{badText, inputFit, inputOf}
 use Rattle.glyph.specs.Write.{withId}
 use Rattle.book.specs.Book.{recordsOf, counted, bodyOf, firstOf, readLookups, readBook, lookupAt}
 use Rattle.runs.specs.Repair.{following, gained, lost, grownBy, shrunkBy, repaired}
@@ -30,7 +31,7 @@ abbrev pub wanted : Card → List (List ℕ)
 wanted c = c .wanted
 
 pub all-cards : map given cards ≡ map wanted cards
-unfolding every some ranged masksOf bitsBelow blank inSet inputMatcher contextMatcher matcherOf skipYes ignorable skipOf ruledOut valueOf matchOf verdict walk walkFrom takes reached mayJoin baseBefore baseSkips inputBy inputOn ligated limit glyphs glyphsOf withId recordsOf counted bodyOf firstOf readLookups readBook lookupAt following gained lost grownBy shrunkBy repaired triedBy recordsBy closed chainRun checkedFirst checkedAll risesTo
+unfolding every some ranged masksOf bitsBelow blank inSet inputMatcher contextMatcher matcherOf skipYes ignorable skipOf ruledOut valueOf matchOf verdict walk walkFrom takes reached mayJoin baseBefore baseSkips inputBy inputOn ligated limit glyphs glyphsOf illShaped badText inputFit inputOf withId recordsOf counted bodyOf firstOf readLookups readBook lookupAt following gained lost grownBy shrunkBy repaired triedBy recordsBy closed chainRun checkedFirst checkedAll risesTo
 all-cards = refl
 
 pub all-examples : map given examples ≡ map wanted examples

@@ -1,4 +1,5 @@
 pub mod Card
+pub mod Signs
 pub mod Matches
 pub mod Sums
 pub mod Runs

@@ -12,17 +12,14 @@ use Rattle.runs.specs.Run.{Stage}
 use Rattle.nested.specs.declared.Checked.{Checked}
 use Rattle.nested.specs.Calls.{checkedAll, runSays, endingNumber, refusalNumber}
 use Rattle.cards.specs.Card.{Card}
-
--- a glyph's words
-abbrev sign : ℕ → List ℕ
-sign id = id ∷ 1 ∷ 0 ∷ 257 ∷ []
+use Rattle.cards.specs.Signs.{letter}
 
 abbrev empty : List ℕ
 empty = replicate 4096 0
 
 -- three glyphs that end the row
 abbrev three : List ℕ
-three = replicate 4084 0 ++ (sign 1 ++ sign 2 ++ sign 3)
+three = replicate 4084 0 ++ (letter 1 ++ letter 2 ++ letter 3)
 
 abbrev matched : InputMatch
 matched = record { answer = InputAnswer.Matched 1024 3; count = 3; positions = slotted (1021 ∷ 1022 ∷ 1023 ∷ []) }
