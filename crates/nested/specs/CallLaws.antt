@@ -109,7 +109,7 @@ module _ (idx end count : ℕ) (places : List ℕ) where
         places-rise p e h = rw (ne-eqb count 0 some, le-leb count slots few, le-leb end limit short, ← e, eq-eqb p idx h)
 
 -- rising places, moved to the text, are a level's positions
-moved-rise : (low end : ℕ) (ps : List ℕ) (idx d lo : ℕ) → idx ≤ low → lo ≡ d + (low - idx) → risesTo low end ps ≡ true → Rises lo (d + (end - idx)) (map (fromDone idx d) ps)
+pub moved-rise : (low end : ℕ) (ps : List ℕ) (idx d lo : ℕ) → idx ≤ low → lo ≡ d + (low - idx) → risesTo low end ps ≡ true → Rises lo (d + (end - idx)) (map (fromDone idx d) ps)
 unfolding risesTo
 moved-rise low end [] idx d lo h q e = rises.none
 moved-rise low end (p ∷ ps) idx d lo h q e =

@@ -1,5 +1,5 @@
 -- The run's refusals as 01's table has them ("When the desk says no"): each number exactly when its line holds and no line before it does, in the
--- order 1, 2, 12, 11, 7; and accepted exactly when none holds. A line is said by what it refuses: what isn't so.
+-- order 1, 2, 12, 11, 7; and accepted exactly when none holds. Each record here says what its line lets pass: the line holds where that isn't so.
 use mathlib.Core.Path.{_≡_, refl, sym, subst, _∙_}
 use mathlib.Core.Bool.{Bool, true, false, cond, not, _&&_, _||_, true≢false}
 use mathlib.Core.List.{List, [], _∷_}
@@ -198,7 +198,7 @@ module _ (idx : ℕ) (m : InputMatch) where
   begins-at : (count : ℕ) (ps : List ℕ) → 1 ≤ count → getD ps 0 0 ≡ idx → idx ≤ getD (take count ps) 0 0
   begins-at count ps h e = omega (arith, getD-take count ps 0 0 h)
 
-  good-by : (u : Usable idx m) → goodPlaces idx (u .end) (m .count) (m .positions) ≡ true
+  pub good-by : (u : Usable idx m) → goodPlaces idx (u .end) (m .count) (m .positions) ≡ true
   good-by u =
       let c = u .some in
       rw (

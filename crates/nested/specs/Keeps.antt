@@ -1,0 +1,103 @@
+-- A run touches no glyph before the match's first position, which is the cursor, and leaves rising positions (01, "Records over a text"), said of calls.
+-- Every chain of a book that reads matches in its text, so what is shown of any fair way of matching chains holds of the run.
+use mathlib.Core.Path.{_≡_, refl, sym, ap, ap₂, subst, _∙_}
+use mathlib.Core.List.{List}
+use Prim.Native.Nat.{ℕ, _-_, _≤_, _<_}
+use native.Mathlib.Omega.{arith}
+use lib.ListN.{length, take, replicate, length-take, length-map}
+use lib.Seq.{take-at}
+use Rattle.glyph.specs.Glyph.{limit, glyphsOf}
+use Rattle.text.specs.declared.Place.{Place}
+use Rattle.text.specs.Text.{Text, textOf, Fits}
+use Rattle.text.specs.Changes.{before-cursor}
+use Rattle.text.specs.Laws.{sizes}
+use Rattle.matching.specs.Take.{slots}
+use Rattle.book.specs.Book.{Reading, recordsOf, isRead}
+use Rattle.book.specs.Places.{indexOf}
+use Rattle.runs.specs.declared.Given.{Given}
+use Rattle.runs.specs.Repair.{Level}
+use Rattle.runs.specs.Run.{begun}
+use Rattle.runs.specs.Rises.{Rises, Sound, rises-wider}
+use Rattle.runs.specs.Kept.{Fair, Good}
+use Rattle.runs.specs.Chain.{chainMatch}
+use Rattle.runs.specs.Promises.{run-good}
+use Rattle.levels.specs.Slots.{fromDone, movedLevel}
+use Rattle.steps.specs.Shifts.{endOf}
+use Rattle.nested.specs.declared.Checked.{Checked}
+use Rattle.nested.specs.Levels.{lookupsOf}
+use Rattle.nested.specs.Cycle.{book-fair}
+use Rattle.nested.specs.Calls.{Said, Whole}
+use Rattle.nested.specs.CallLaws.{places-show, moved-rise, index-reads, index-is}
+use Rattle.nested.specs.Table.{Shaped, Readable, Usable, placesOf, good-by, accepted}
+use Rattle.nested.specs.Demand3.{Handed, Left, Called, checkedOf, stageOf}
+
+-- the text that a call left in the rows
+abbrev pub textAfter : Left → Text
+textAfter l = textOf (l .done) (l .coming) (record { d = l .answer .d; idx = l .answer .idx })
+
+fair-of : (book : List ℕ) (given : Given) (sets : List ℕ) → Readable book → Fair (chainMatch given sets) (lookupsOf book)
+fair-of book given sets r =
+    book-fair (index-is book (indexOf book) refl (index-reads book ∙ ap (λ (k : Reading). isRead k) (r .1))) given sets
+
+module _ (h : Handed) where
+  abbrev p : Place
+  p = h .place
+
+  abbrev t : Text
+  t = textOf (h .done) (h .coming) p
+
+  abbrev first : Level
+  first = movedLevel (p .idx) (p .d) (placesOf (h .match)) (endOf (h .match .answer))
+
+  fits : Shaped (h .done) (h .coming) p (h .sets) (h .records) → p .idx < limit → Fits (h .done) (h .coming) p
+  fits s i = let u = s .text-inside in record { long = s .done-long; wide = s .coming-long; within = omega arith; room = omega arith }
+
+  -- the level of the match that is handed in lies in the text, from the cursor on
+  first-sound : Fits (h .done) (h .coming) p → Usable (p .idx) (h .match) → Sound (p .d) (length (t .glyphs)) first
+  first-sound f u =
+      let z = sizes (h .done) (h .coming) p f in
+      let s = places-show (p .idx) (u .end) (h .match .count) (h .match .positions) (good-by (p .idx) (h .match) u) in
+      let e : endOf (h .match .answer) ≡ u .end = ap endOf (u .success) in
+      let n = length-map (placesOf (h .match)) (fromDone (p .idx) (p .d)) in
+      let k = length-take (h .match .count) (h .match .positions) in
+      record {
+        few = omega (arith, u .few);
+        rises = rw e (moved-rise (p .idx) (u .end) (placesOf (h .match)) (p .idx) (p .d) (p .d) (omega arith) (omega arith) (s .rise));
+        begins = omega arith;
+        within = omega (arith, u .within);
+      }
+
+  module _ (a d : ℕ) (l : Left) (c : Called h a d l) (e : checkedOf h a d ≡ Checked.Accepted) where
+    lines : Shaped (h .done) (h .coming) p (h .sets) (h .records) × (p .idx < limit) × Readable (h .book) × Usable (p .idx) (h .match)
+    lines = let s = accepted (h .done) (h .coming) p (h .sets) (h .book) (h .records) (h .match) a d .0 e in (s .0, s .1, s .3, s .4)
+
+    good : Good (p .d) (begun a t) (stageOf h a d)
+    good =
+        let f = fits (lines .0) (lines .1) in
+        let z = sizes (h .done) (h .coming) p f in
+        run-good (chainMatch (h .given) (h .sets)) (lookupsOf (h .book)) (recordsOf (h .records)) (first .positions) (first .end) t
+        (fair-of (h .book) (h .given) (h .sets) (lines .2)) d a (first-sound f (lines .3)) (omega arith)
+
+    whole : Whole (stageOf h a d) (l .done) (l .coming) (l .answer)
+    whole = subst (λ (k : Checked). Said k (stageOf h a d) (h .done) (h .coming) (l .done) (l .coming) (l .answer)) e (c .said)
+
+    -- the level that it leaves, over the text that it leaves
+    level-sound : Sound (p .d) (length (textAfter l .glyphs)) (stageOf h a d .level)
+    level-sound = subst (λ (u : Text). Sound (p .d) (length (u .glyphs)) (stageOf h a d .level)) (sym (whole .holds .text)) (good .level)
+
+    -- the glyphs before the cursor, the first d of `done`, are those of the text afterwards
+    pub run-keeps : take (p .d) (textAfter l .glyphs) ≡ take (p .d) (glyphsOf (h .done))
+    run-keeps =
+        ap (λ (u : Text). take (p .d) (u .glyphs)) (whole .holds .text) ∙ good .kept .before ∙ before-cursor (fits (lines .0) (lines .1))
+
+    -- the answer's positions are at most 64
+    pub positions-few : l .answer .count ≤ slots
+    positions-few = omega (arith, whole .count, level-sound .few)
+
+    -- they rise from the cursor on, and none is past the text's end
+    pub positions-rise : Rises (p .d) (length (textAfter l .glyphs)) (take (l .answer .count) (l .answer .positions))
+    positions-rise =
+        let ps : List ℕ = stageOf h a d .level .positions in
+        let e : take (l .answer .count) (l .answer .positions) ≡ ps =
+        ap₂ (λ (n : ℕ) (s : List ℕ). take n s) (whole .count) (whole .positions) ∙ take-at ps (replicate (slots - length ps) 0) (length ps) refl in
+        rw e (rises-wider (p .d) (length (textAfter l .glyphs)) (omega arith) (level-sound .within) (level-sound .rises))
