@@ -10,23 +10,20 @@ use Rattle.glyph.specs.Reply.{Reply}
 use Rattle.text.specs.declared.Place.{Place}
 use Rattle.text.specs.Text.{Text, textOf}
 use Rattle.matching.specs.declared.InputMatch.{InputMatch}
-use Rattle.matching.specs.Answers.{slotted}
-use Rattle.book.specs.Book.{recordsOf}
+use Rattle.matching.specs.Answers.{slotted, endOf}
+use Rattle.book.specs.Book.{recordsOf, lookupsOf}
 use Rattle.runs.specs.declared.Ending.{Ending}
 use Rattle.runs.specs.declared.Ending.the-variants.{Finished, Short, Deep, Full}
 use Rattle.runs.specs.declared.Given.{Given}
 use Rattle.runs.specs.Repair.{Level}
-use Rattle.runs.specs.Run.{Stage}
+use Rattle.runs.specs.Run.{Stage, movedLevel}
 use Rattle.runs.specs.Chain.{chainMatch}
 use Rattle.runs.specs.Promises.{Alike, more-is-same, less-is-short, spent-within}
-use Rattle.levels.specs.Slots.{movedLevel}
-use Rattle.steps.specs.Shifts.{endOf}
 use Rattle.nested.specs.declared.Refusal.{Refusal}
 use Rattle.nested.specs.declared.Refusal.the-variants.{Shape, Cursor, Limits, Book, Match}
 use Rattle.nested.specs.declared.RunEnding.{RunEnding}
 use Rattle.nested.specs.declared.RunAnswer.{RunAnswer}
 use Rattle.nested.specs.declared.Checked.{Checked}
-use Rattle.nested.specs.Levels.{lookupsOf}
 use Rattle.nested.specs.Calls.{checkedAll, runSays, Said, Whole, refusedBy, endingNumber, refusalNumber, runReply}
 use Rattle.nested.specs.Decided.{run-decided}
 use Rattle.nested.specs.Table.{Limited, Beyond, accepted, refused-12}

@@ -12,24 +12,22 @@ use Rattle.text.specs.Text.{Text, textOf, Fits}
 use Rattle.text.specs.Changes.{before-cursor}
 use Rattle.text.specs.Laws.{sizes}
 use Rattle.matching.specs.Take.{slots}
-use Rattle.book.specs.Book.{Reading, recordsOf, isRead}
+use Rattle.book.specs.Book.{Reading, recordsOf, isRead, lookupsOf}
 use Rattle.book.specs.Places.{indexOf}
 use Rattle.runs.specs.declared.Given.{Given}
-use Rattle.runs.specs.Repair.{Level}
-use Rattle.runs.specs.Run.{begun}
-use Rattle.runs.specs.Rises.{Rises, Sound, rises-wider}
+use Rattle.runs.specs.Repair.{Level, Rises, Sound}
+use Rattle.runs.specs.Run.{begun, fromDone, movedLevel}
+use Rattle.runs.specs.Rises.{rises-wider}
 use Rattle.runs.specs.Kept.{Fair, Good}
 use Rattle.runs.specs.Chain.{chainMatch}
 use Rattle.runs.specs.Promises.{run-good}
-use Rattle.levels.specs.Slots.{fromDone, movedLevel}
-use Rattle.steps.specs.Shifts.{endOf}
 use Rattle.nested.specs.declared.Checked.{Checked}
-use Rattle.nested.specs.Levels.{lookupsOf}
 use Rattle.nested.specs.Cycle.{book-fair}
 use Rattle.nested.specs.Calls.{Said, Whole}
 use Rattle.nested.specs.CallLaws.{places-show, moved-rise, index-reads, index-is}
 use Rattle.nested.specs.Table.{Shaped, Readable, Usable, placesOf, good-by, accepted}
 use Rattle.nested.specs.Demand3.{Handed, Left, Called, checkedOf, stageOf}
+use Rattle.matching.specs.Answers.{endOf}
 
 -- the text that a call left in the rows
 abbrev pub textAfter : Left → Text

@@ -19,11 +19,11 @@ use Rattle.matching.specs.declared.InputAnswer.{InputAnswer}
 use Rattle.matching.specs.declared.InputMatch.{InputMatch}
 use Rattle.matching.specs.Take.{slots}
 use Rattle.book.specs.Book.{Lookup, mostRecords, Reading, Reads, Unreadable, readBook, isRead}
-use Rattle.steps.specs.State.{mostAllowance}
 use Rattle.nested.specs.declared.Refusal.the-variants.{Shape, Cursor, Limits, Book, Match}
 use Rattle.nested.specs.declared.Checked.{Checked}
-use Rattle.nested.specs.Calls.{mostDepth, badRecords, checkedFirst, checkedPlaces, checkedMatch, checkedBook, checkedAll, then, risesTo, goodPlaces}
+use Rattle.nested.specs.Calls.{badRecords, checkedFirst, checkedPlaces, checkedMatch, checkedBook, checkedAll, then, risesTo, goodPlaces}
 use Rattle.nested.specs.CallLaws.{places-show}
+use Rattle.runs.specs.Run.{mostAllowance, mostDepth}
 
 -- ---- the lines
 
