@@ -1,0 +1,47 @@
+//! Conchibaru from Rust: a glyph matcher that is proved to meet its definitions, after harfrust 0.15.0, behind safe calls.
+//!
+//! The proved library is `libdesk.a`; `rt staticlib desk` makes it, for x86-64 Linux. This crate has no other dependency. It adds
+//! types and names, and decides nothing: each answer is the library's. docs/01-scope.md ("document 01") has the rules.
+//!
+//! - **Any words may be handed in.** Every call ends, stays within its slices, and refuses what it doesn't accept by document
+//!   01's number ([`Refusal`]). None panics.
+//! - **Names are harfrust's** where it has one: [`match_input`], [`match_lookahead`], [`match_backtrack`], [`may_skip`],
+//!   [`may_match`], [`SetDigest`], [`RuleSetDigest`], [`Budget`]. Its `SkippingIterator` is [`forward`] and [`backward`], its
+//!   `MatchResult` is [`Verdict`], its `ApplyContext` is a [`Lookup`] beside a [`Text`], and its `apply_lookup` is [`run`].
+//! - **A row** is a slice of words, four to a glyph ([`Glyph`]), of at most 1,024 glyphs. Places count glyphs.
+//!
+//! ```
+//! use conchibaru::{match_input, row, Glyph, InputMatch, Lookup, Test, Text};
+//!
+//! // Card K1: ids 5, 7 and the value 7.
+//! let coming = row(&[Glyph::new(5), Glyph::new(7)]);
+//! let answer = match_input(&Text::coming(&coming), &Lookup::default(), &[], Test::Equal, &[7]);
+//! let InputMatch::Matched(m) = answer else { panic!("{answer:?}") };
+//! assert_eq!((m.end, m.positions()), (2, &[0, 1][..]));
+//! ```
+
+mod budget;
+mod c;
+mod digests;
+mod glyphs;
+mod matches;
+mod refusal;
+mod runs;
+mod walks;
+
+pub use budget::{Budget, Exhausted};
+pub use digests::{RuleSetDigest, SetDigest};
+pub use glyphs::{flags, lookup_flags, props, row, Glyph, LIMIT, WORDS};
+pub use matches::{
+    match_backtrack, match_input, match_lookahead, ContextMatch, InputMatch, Match, Text,
+    MAX_CONTEXT_LENGTH,
+};
+pub use refusal::Refusal;
+pub use runs::{
+    book_reads, run, Ending, Given, Run, RunAnswer, Switches, MAX_NESTING_LEVEL, MOST_ALLOWANCE,
+    RUN_WORDS,
+};
+pub use walks::{
+    backward, forward, may_match, may_skip, verdict, Lookup, MayMatch, MaySkip, Role, Sought,
+    Table, Test, Verdict, Walked,
+};
