@@ -236,6 +236,24 @@ static void walk_card(void) {
     EXPECT(is_step(cb_backward(coming_3, 12, 2, set, true, five, in_set_3, 2), CB_LOST, false, 0));
     EXPECT(is_step(cb_backward(coming_3, 12, 0, marks, true, five, NULL, 0), CB_LOST, true, 0));
     card("-", "the walks: found, stopped, run out");
+
+    cb_lookup l = plain(0);
+    l.syllables = true;
+    five_nine_seven(CB_WORD_2(0, 2, 0));
+    for (uint8_t syllable = 1; syllable <= 2; syllable++) {
+        uint8_t number = syllable == 2 ? CB_MATCHED : CB_LOST;
+        EXPECT(cb_forward(coming_3, 12, 3, 0, l, false, sought(CB_TEST_EQUAL, syllable, 9), NULL, 0).number == number);
+        EXPECT(cb_backward(coming_3, 12, 2, l, false, sought(CB_TEST_EQUAL, syllable, 9), NULL, 0).number == number);
+        EXPECT(cb_forward(coming_3, 12, 3, 0, l, false, sought(CB_TEST_ANY, syllable, 8), NULL, 0).number == number);
+        EXPECT(cb_backward(coming_3, 12, 2, l, false, sought(CB_TEST_ANY, syllable, 8), NULL, 0).number == number);
+    }
+    l.syllables = false;
+    l.mask = 2;
+    EXPECT(is_step(cb_forward(coming_3, 12, 3, 0, l, true, sought(CB_TEST_EQUAL, 0, 9), NULL, 0), 0, false, 1));
+    EXPECT(is_step(cb_forward(coming_3, 12, 3, 0, l, false, sought(CB_TEST_EQUAL, 0, 9), NULL, 0), CB_LOST, false, 2));
+    EXPECT(is_step(cb_backward(coming_3, 12, 3, l, true, seven, NULL, 0), 0, false, 2));
+    EXPECT(is_step(cb_backward(coming_3, 12, 3, l, false, seven, NULL, 0), CB_LOST, false, 1));
+    card("-", "the walks: the starting syllable, the kind of test, and the matcher turn an answer");
 }
 
 static void context_card(void) {
@@ -255,6 +273,56 @@ static void context_card(void) {
     EXPECT(is_placed(cb_match_backtrack(done, 12, 2, coming_3, 12, 3, 0, marks, NULL, 0, CB_TEST_EQUAL, v, 1), CB_LOST, 0));
     EXPECT(is_placed(cb_match_backtrack(done, 12, 0, coming_3, 12, 3, 2, gpos, NULL, 0, CB_TEST_EQUAL, v + 1, 1), 0, 0));
     card("-", "lookahead and backtrack");
+}
+
+/* whether 7 is matched behind a glyph with this word 2: as input, ahead and back */
+static bool is_input(uint32_t word_2, cb_lookup l, uint8_t test) {
+    static const uint32_t seven = 7;
+    five_nine_seven(word_2);
+    return cb_match_input(NULL, 0, 0, coming_3, 12, 3, 0, l, NULL, 0, test, &seven, 1).number == CB_MATCHED;
+}
+static bool is_context(uint32_t word_2, cb_lookup l, uint8_t test) {
+    static const uint32_t seven = 7, five = 5;
+    five_nine_seven(word_2);
+    bool ahead = cb_match_lookahead(NULL, 0, 0, coming_3, 12, 3, 0, 1, l, NULL, 0, test, &seven, 1).number == CB_MATCHED;
+    bool back = cb_match_backtrack(coming_3, 12, 2, coming_3, 12, 3, 2, l, NULL, 0, test, &five, 1).number == CB_MATCHED;
+    EXPECT(ahead == back);
+    return ahead;
+}
+
+static void matcher_card(void) {
+    cb_lookup off = plain(0), l = off;
+    const uint32_t nine = 9;
+    EXPECT(is_input(IGNORABLE, off, CB_TEST_EQUAL) && !is_input(ZWJ, off, CB_TEST_EQUAL) && !is_input(ZWNJ, off, CB_TEST_EQUAL));
+    EXPECT(is_context(IGNORABLE, off, CB_TEST_EQUAL) && is_context(ZWJ, off, CB_TEST_EQUAL) && !is_context(ZWNJ, off, CB_TEST_EQUAL));
+    EXPECT(is_input(ZWJ, off, CB_TEST_ANY) && is_context(ZWNJ, off, CB_TEST_ANY) && !is_input(0, off, CB_TEST_EQUAL));
+    l.zwj = true;
+    EXPECT(is_input(ZWJ, l, CB_TEST_EQUAL) && !is_input(ZWNJ, l, CB_TEST_EQUAL) && !is_context(ZWNJ, l, CB_TEST_EQUAL));
+    l = off;
+    l.zwnj = true;
+    EXPECT(!is_input(ZWJ, l, CB_TEST_EQUAL) && !is_input(ZWNJ, l, CB_TEST_EQUAL) && is_context(ZWNJ, l, CB_TEST_EQUAL));
+    l = off;
+    l.gpos = true;
+    EXPECT(is_input(ZWNJ, l, CB_TEST_EQUAL) && is_context(ZWNJ, l, CB_TEST_EQUAL));
+    l = off;
+    l.mask = 2;
+    EXPECT(!is_input(IGNORABLE, l, CB_TEST_EQUAL) && is_context(IGNORABLE, l, CB_TEST_EQUAL));
+    EXPECT(!is_context(0, off, CB_TEST_EQUAL) && is_context(0, off, CB_TEST_NOTHING) && is_input(0, off, CB_TEST_NOTHING));
+    l = plain(CB_IGNORE_MARKS);
+    EXPECT(is_input(MARK, l, CB_TEST_EQUAL) && !is_input(MARK, off, CB_TEST_EQUAL) && is_context(MARK, l, CB_TEST_EQUAL));
+
+    /* the glyphs on which the cursor stands are of syllable 1, and 9 is of none */
+    five_nine_seven(IGNORABLE);
+    coming_3[2] = coming_3[10] = CB_WORD_2(0, 1, 0);
+    for (int tested = 0; tested < 2; tested++) {
+        uint8_t number = tested ? CB_LOST : CB_MATCHED;
+        l = off;
+        l.syllables = tested;
+        EXPECT(cb_match_input(NULL, 0, 0, coming_3, 12, 3, 0, l, NULL, 0, CB_TEST_EQUAL, &nine, 1).number == number);
+        EXPECT(cb_match_lookahead(NULL, 0, 0, coming_3, 12, 3, 0, 1, l, NULL, 0, CB_TEST_EQUAL, &nine, 1).number == number);
+        EXPECT(cb_match_backtrack(coming_3, 12, 2, coming_3, 12, 3, 2, l, NULL, 0, CB_TEST_EQUAL, &nine, 1).number == number);
+    }
+    card("-", "each field of a lookup turns a matcher's answer");
 }
 
 /* ---- runs: K11 to K14 */
@@ -353,7 +421,10 @@ static void run_cards(void) {
     lay_out(1021);
     EXPECT(is_ran(run(1021, doubles, 8, 1, 1), CB_ENDING_FULL, 1, 1022, 1022, 3, 1021));
     EXPECT(is_text(1021, 3, ids_123, of_012, 1022));
-    card("-", "as K11 behind 1,021 glyphs: Full, and nothing of the result is written");
+    lay_out(1020);
+    EXPECT(is_ran(run(1020, doubles, 8, 1, 1), CB_ENDING_FINISHED, 1, 1024, 1024, 4, 1020));
+    EXPECT(is_text(1020, 4, ids_1223, of_0112, 1024));
+    card("-", "as K11 behind 1,021 glyphs: Full, and nothing of the result is written; behind 1,020 it fits");
 }
 
 /* over 1, 2, 3, of which 2 has this word 2: whether lookup 0, a chain, let its record turn the glyph at a place into 9 */
@@ -480,6 +551,7 @@ int main(void) {
     question_card();
     walk_card();
     context_card();
+    matcher_card();
     chain_card();
     shape_card();
     matcher_refusal_cards();
