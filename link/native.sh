@@ -39,7 +39,8 @@ compile_native() {
     done
     sed "$@" "$made/module.ll" >"$made/native.ll"
     "$clang" -O3 -fPIC -ffunction-sections -c -x ir "$made/native.ll" -o "$made/native/desk.o"
-    cc -std=c99 -Wall -Wextra -Wpedantic -Werror -O2 -fPIC -ffunction-sections -I"$root/include" -c "$root/link/native.c" -o "$made/native/customs.o"
+    "$clang" -std=c99 -Wall -Wextra -Wpedantic -Werror -O2 -fPIC -ffunction-sections -nostdinc -isystem "$root/link/bare" \
+        -I"$root/include" -c "$root/link/native.c" -o "$made/native/customs.o"
     rm -f "$made/native/libdesk.a"
     "$tools/bin/llvm-ar" rcs "$made/native/libdesk.a" "$made/native/desk.o" "$made/native/customs.o"
 }
