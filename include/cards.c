@@ -542,6 +542,67 @@ static void run_refusal_cards(void) {
     card("-", "the largest allowance and depth are taken");
 }
 
+/* ---- the examples that conchibaru.h gives, in its order */
+
+static void digest_examples(void) {
+    uint64_t m[3], o[3], r;
+    uint32_t ids[2] = {5, 7};
+    cb_digest_new(m);
+    EXPECT(is_masks(m, 0, 0, 0));
+    cb_digest_full(m);
+    EXPECT(is_masks(m, UINT64_MAX, UINT64_MAX, UINT64_MAX));
+    cb_digest_clear(m);
+    EXPECT(is_masks(m, 0, 0, 0));
+    cb_digest_new(o);
+    cb_digest_add(o, 4660);
+    cb_digest_add_array(m, ids, 2);
+    cb_digest_union(m, o);
+    EXPECT(is_masks(m, bit(0) | bit(35), bit(5) | bit(7) | bit(52), bit(0) | bit(8)));
+    cb_digest_new(m);
+    EXPECT(cb_digest_add_range(m, 62, 65));
+    cb_digest_new(m);
+    cb_digest_new(o);
+    cb_digest_add(m, 5);
+    cb_digest_add(o, 6);
+    EXPECT(!cb_digest_may_intersect(m, o));
+    r = cb_rule_set_digest_new();
+    EXPECT(r == 0);
+    r = cb_rule_set_digest_full();
+    EXPECT(r == UINT64_MAX && cb_rule_set_digest_add(0, 65) == 2);
+    EXPECT(cb_rule_set_digest_is_full(UINT64_MAX) && cb_rule_set_digest_may_have(2, 129));
+}
+
+static void other_examples(void) {
+    uint64_t left[2];
+    cb_budget_for_table_bytes(left, 16385);
+    EXPECT(is_left(left, 4194560, 4194560));
+    cb_budget_new(left, 10, 100);
+    EXPECT(is_left(left, 10, 100) && !cb_budget_work(left, 11) && is_left(left, 10, 100));
+    EXPECT(cb_budget_alloc(left, 25, 4) && is_left(left, 10, 0));
+
+    uint32_t row[4] = {9, 1, CB_WORD_2(0, 0, CB_PROPS_MARK), 257};
+    cb_lookup l = {false, false, false, false, 1, CB_IGNORE_MARKS};
+    cb_sought s = {CB_TEST_EQUAL, 0, 9};
+    EXPECT(is_said(cb_may_skip(row, 4, 0, l, false, NULL, 0), 0, CB_MAY_SKIP_YES));
+    EXPECT(is_said(cb_may_match(row, 4, 0, l, false, s), 0, CB_MAY_MATCH_YES));
+    EXPECT(is_said(cb_verdict(row, 4, 0, l, false, s, NULL, 0), 0, CB_VERDICT_SKIP));
+    five_nine_seven(MARK);
+    s.value = 7;
+    EXPECT(is_step(cb_forward(coming_3, 12, 3, 0, l, false, s, NULL, 0), 0, false, 2));
+    s.value = 5;
+    EXPECT(is_step(cb_backward(coming_3, 12, 2, l, false, s, NULL, 0), 0, false, 0));
+
+    uint32_t before[4], text[8], v[1] = {7};
+    static const uint16_t at_0_1[2] = {0, 1};
+    put(before, 0, 7, 1, 0, ONE);
+    put(text, 0, 5, 1, 0, ONE);
+    put(text, 1, 7, 1, 0, ONE);
+    EXPECT(is_matched(cb_match_input(NULL, 0, 0, text, 8, 2, 0, l, NULL, 0, CB_TEST_EQUAL, v, 1), 2, 2, 2, at_0_1));
+    EXPECT(is_placed(cb_match_lookahead(NULL, 0, 0, text, 8, 2, 0, 1, l, NULL, 0, CB_TEST_EQUAL, v, 1), 0, 2));
+    EXPECT(is_placed(cb_match_backtrack(before, 4, 1, text, 8, 2, 0, l, NULL, 0, CB_TEST_EQUAL, v, 1), 0, 0));
+    EXPECT(cb_book_reads(doubles, 8)); /* and cb_run's is K11 */
+}
+
 int main(void) {
     input_cards();
     digest_cards();
@@ -556,6 +617,9 @@ int main(void) {
     shape_card();
     matcher_refusal_cards();
     run_refusal_cards();
+    digest_examples();
+    other_examples();
+    card("-", "the examples in conchibaru.h");
     printf("%d cards, %d wrong\n", cards, wrong);
     return wrong != 0;
 }

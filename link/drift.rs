@@ -25,8 +25,7 @@ fn words(text: &str) -> Words {
         let rest: String = chars[i..chars.len().min(i + 2)].iter().collect();
         let end = |close: &str, from: usize| {
             let tail: String = chars[from..].iter().collect();
-            tail.find(close)
-                .map_or(chars.len(), |at| from + tail[..at].chars().count() + close.len())
+            tail.find(close).map_or(chars.len(), |at| from + tail[..at].chars().count() + close.len())
         };
         if rest == "//" {
             i = end("\n", i);
@@ -36,9 +35,7 @@ fn words(text: &str) -> Words {
             let close = end("\"", i + 1);
             out.push(chars[i..close].iter().collect());
             i = close;
-        } else if is_word(chars[i])
-            || (chars[i] == '\'' && chars.get(i + 1).is_some_and(|&c| is_word(c)))
-        {
+        } else if is_word(chars[i]) || (chars[i] == '\'' && chars.get(i + 1).is_some_and(|&c| is_word(c))) {
             let start = i;
             i += 1;
             while i < chars.len() && is_word(chars[i]) {
@@ -233,13 +230,7 @@ fn read_desk(words: &[String]) -> Option<(Said, Vec<usize>)> {
         } else if r.peek(1) == "::" && r.peek(3) == "=>" && is_name(r.peek(0)) {
             let name = number_name(r.peek(0), r.peek(2));
             r.at += 4;
-            let at = if r.peek(0) == "Said"
-                && r.starts(&["Said", "{", "number", ":", "0", ",", "said", ":"])
-            {
-                8
-            } else {
-                0
-            };
+            let at = if r.peek(0) == "Said" && r.starts(&["Said", "{", "number", ":", "0", ",", "said", ":"]) { 8 } else { 0 };
             if let Some(value) = number(r.peek(at)) {
                 r.read.push(r.at + at);
                 // Two rooms may have a refusal of one name; it has one number.
@@ -319,8 +310,7 @@ fn c_field(r: &mut Reader, argument: bool) -> Option<String> {
     if r.take("[") {
         let n = number(r.next())?;
         r.need("]")?;
-        return (!star)
-            .then(|| format!("{name}: {}[{of}; {n}]", if argument { pointer } else { "" }));
+        return (!star).then(|| format!("{name}: {}[{of}; {n}]", if argument { pointer } else { "" }));
     }
     (star || !constant).then(|| format!("{name}: {}{of}", if star { pointer } else { "" }))
 }
@@ -444,10 +434,7 @@ fn differences(ours: (&str, &Said), desk: (&str, &Said)) -> Vec<String> {
 
 /// A word changed to one that could stand there too; an empty one is left out.
 fn changed(before: &str, word: &str) -> String {
-    let types = [
-        "u8", "u16", "u32", "u64", "usize", "u8", "uint8_t", "uint16_t", "uint32_t", "uint64_t",
-        "size_t", "uint8_t",
-    ];
+    let types = ["u8", "u16", "u32", "u64", "usize", "u8", "uint8_t", "uint16_t", "uint32_t", "uint64_t", "size_t", "uint8_t"];
     match word {
         "bool" => "u8".to_string(),
         "const" if before == "*" => "mut".to_string(),
@@ -489,18 +476,12 @@ fn folder(path: &str, ending: &str) -> String {
     let list = fs::read_dir(path).unwrap_or_else(|why| panic!("{path}: {why}"));
     let mut files: Vec<_> = list.map(|entry| entry.expect("a file of the folder").path()).collect();
     files.sort();
-    files
-        .iter()
-        .filter(|f| f.extension().is_some_and(|e| e == ending))
-        .map(|f| file(&f.to_string_lossy()) + "\n")
-        .collect()
+    files.iter().filter(|f| f.extension().is_some_and(|e| e == ending)).map(|f| file(&f.to_string_lossy()) + "\n").collect()
 }
 
 fn main() {
     let arguments: Vec<String> = std::env::args().skip(1).collect();
-    let [header, desk, krate] = &arguments[..] else {
-        panic!("usage: drift HEADER DESK-FOLDER CRATE-FOLDER")
-    };
+    let [header, desk, krate] = &arguments[..] else { panic!("usage: drift HEADER DESK-FOLDER CRATE-FOLDER") };
     let header = ("conchibaru.h", words(&without_directives(&file(header))), read_header as Read);
     let desk = ("crates/desk", words(&folder(desk, "rt")), read_desk as Read);
     let krate = ("bindings/rust", words(&folder(krate, "rs")), read_crate as Read);
@@ -517,14 +498,10 @@ fn main() {
     let fns = read[1].items.values().filter(|item| item.starts_with("fn ")).count();
     let (structs, numbers) = (read[1].items.len() - fns, read[1].numbers.len());
     let mut count = 0;
-    if found.is_empty() {
-        for (k, (name, words, reader)) in [&header, &desk, &krate].into_iter().enumerate() {
-            let (tried, unnoticed) = trials(words, *reader, &|said| *said == read[k]);
-            count += tried;
-            found.extend(unnoticed.iter().map(|place| {
-                format!("a change of the middle word wouldn't be noticed in {name}: {place}")
-            }));
-        }
+    for (k, (name, words, reader)) in [&header, &desk, &krate].into_iter().enumerate() {
+        let (tried, unnoticed) = trials(words, *reader, &|said| *said == read[k]);
+        count += tried;
+        found.extend(unnoticed.iter().map(|place| format!("{name}: a change of the middle word wouldn't be noticed: {place}")));
     }
     for line in &found {
         println!("drift: {line}");
@@ -532,6 +509,8 @@ fn main() {
     if !found.is_empty() || fns == 0 || structs == 0 || numbers == 0 {
         std::process::exit(1);
     }
-    println!("drift: none. {fns} calls, {structs} structs and {numbers} numbers are the same in the desk, the header and the crate;");
+    println!(
+        "drift: none. {fns} calls, {structs} structs and {numbers} numbers are the same in the desk, the header and the crate;"
+    );
     println!("drift: each of {count} words in them, changed alone, would be noticed");
 }

@@ -18,12 +18,6 @@ fn main() {
 }
 
 fn default_folder() -> PathBuf {
-    let made = if env::var("CARGO_CFG_TARGET_ARCH").as_deref() == Ok("x86_64") {
-        "staticlib"
-    } else {
-        "link/native"
-    };
-    PathBuf::from(env::var_os("CARGO_MANIFEST_DIR").expect("cargo sets it"))
-        .join("../../target")
-        .join(made)
+    let made = if env::var("CARGO_CFG_TARGET_ARCH").as_deref() == Ok("x86_64") { "staticlib" } else { "link/native" };
+    PathBuf::from(env::var_os("CARGO_MANIFEST_DIR").expect("cargo sets it")).join("../../target").join(made)
 }

@@ -106,14 +106,7 @@ extern "C" {
         sets: *const u16,
         sets_len: usize,
     ) -> Said;
-    pub fn cb_may_match(
-        row: *const u32,
-        row_len: usize,
-        place: usize,
-        lookup: Lookup,
-        context: bool,
-        sought: Sought,
-    ) -> Said;
+    pub fn cb_may_match(row: *const u32, row_len: usize, place: usize, lookup: Lookup, context: bool, sought: Sought) -> Said;
     pub fn cb_verdict(
         row: *const u32,
         row_len: usize,

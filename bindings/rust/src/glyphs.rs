@@ -84,12 +84,7 @@ impl Glyph {
             self.id,
             self.mask,
             u32::from_be_bytes([self.flags, self.syllable, high, low]),
-            u32::from_be_bytes([
-                self.ligature_id,
-                self.component,
-                self.count,
-                self.count_in_ligation,
-            ]),
+            u32::from_be_bytes([self.ligature_id, self.component, self.count, self.count_in_ligation]),
         ]
     }
 
@@ -98,17 +93,7 @@ impl Glyph {
         let [flags, syllable, high, low] = words[2].to_be_bytes();
         let [ligature_id, component, count, count_in_ligation] = words[3].to_be_bytes();
         let props = u16::from_be_bytes([high, low]);
-        Self {
-            id: words[0],
-            mask: words[1],
-            flags,
-            syllable,
-            props,
-            ligature_id,
-            component,
-            count,
-            count_in_ligation,
-        }
+        Self { id: words[0], mask: words[1], flags, syllable, props, ligature_id, component, count, count_in_ligation }
     }
 }
 
@@ -127,14 +112,7 @@ mod tests {
         for place in 0..16 {
             let mut bytes = [0u8; 16];
             bytes[place] = 0xA5;
-            let word = |i: usize| {
-                u32::from_be_bytes([
-                    bytes[4 * i],
-                    bytes[4 * i + 1],
-                    bytes[4 * i + 2],
-                    bytes[4 * i + 3],
-                ])
-            };
+            let word = |i: usize| u32::from_be_bytes([bytes[4 * i], bytes[4 * i + 1], bytes[4 * i + 2], bytes[4 * i + 3]]);
             let words = [word(0), word(1), word(2), word(3)];
             let glyph = Glyph::from_words(words);
             assert_ne!(glyph, Glyph::default());

@@ -32,16 +32,9 @@ mod walks;
 pub use budget::{Budget, Exhausted};
 pub use digests::{RuleSetDigest, SetDigest};
 pub use glyphs::{flags, lookup_flags, props, row, Glyph, LIMIT, WORDS};
-pub use matches::{
-    match_backtrack, match_input, match_lookahead, ContextMatch, InputMatch, Match, Text,
-    MAX_CONTEXT_LENGTH,
-};
+pub use matches::{match_backtrack, match_input, match_lookahead, ContextMatch, InputMatch, Match, Text, MAX_CONTEXT_LENGTH};
 pub use refusal::Refusal;
-pub use runs::{
-    book_reads, run, Ending, Given, Run, RunAnswer, Switches, MAX_NESTING_LEVEL, MOST_ALLOWANCE,
-    RUN_WORDS,
-};
+pub use runs::{book_reads, run, Ending, Given, Run, RunAnswer, Switches, MAX_NESTING_LEVEL, MOST_ALLOWANCE, RUN_WORDS};
 pub use walks::{
-    backward, forward, may_match, may_skip, verdict, Lookup, MayMatch, MaySkip, Role, Sought,
-    Table, Test, Verdict, Walked,
+    backward, forward, may_match, may_skip, verdict, Lookup, MayMatch, MaySkip, Role, Sought, Table, Test, Verdict, Walked,
 };

@@ -51,11 +51,7 @@ impl Match {
 impl fmt::Debug for Match {
     fn fmt(&self, f: &mut fmt::Formatter) -> fmt::Result {
         let Self { end, total, .. } = self;
-        f.debug_struct("Match")
-            .field("end", end)
-            .field("total", total)
-            .field("positions", &self.positions())
-            .finish()
+        f.debug_struct("Match").field("end", end).field("total", total).field("positions", &self.positions()).finish()
     }
 }
 
@@ -85,12 +81,7 @@ impl InputMatch {
 
     fn of(m: c::Matched) -> Self {
         match m.number {
-            0 => Self::Matched(Match {
-                end: m.end,
-                total: m.total,
-                count: m.count,
-                slots: m.positions,
-            }),
+            0 => Self::Matched(Match { end: m.end, total: m.total, count: m.count, slots: m.positions }),
             4 => Self::Lost(m.end),
             5 => Self::Ligature,
             number => Self::Refused(Refusal::of(number)),
@@ -98,21 +89,9 @@ impl InputMatch {
     }
 
     pub(crate) fn in_c(&self) -> c::Matched {
-        let bare = c::Matched {
-            number: self.number(),
-            total: 0,
-            end: 0,
-            count: 0,
-            positions: [0; MAX_CONTEXT_LENGTH],
-        };
+        let bare = c::Matched { number: self.number(), total: 0, end: 0, count: 0, positions: [0; MAX_CONTEXT_LENGTH] };
         match self {
-            Self::Matched(m) => c::Matched {
-                number: 0,
-                total: m.total,
-                end: m.end,
-                count: m.count,
-                positions: m.slots,
-            },
+            Self::Matched(m) => c::Matched { number: 0, total: m.total, end: m.end, count: m.count, positions: m.slots },
             Self::Lost(extent) => c::Matched { end: *extent, ..bare },
             Self::Ligature | Self::Refused(_) => bare,
         }
@@ -189,13 +168,7 @@ macro_rules! call {
 /// assert!(matches!(answer, InputMatch::Matched(m) if m.end == 3 && m.positions() == [0, 2]));
 /// assert_eq!(match_input(&text, &Lookup::default(), &[], Test::Equal, &[7]), InputMatch::Lost(2));
 /// ```
-pub fn match_input(
-    text: &Text,
-    lookup: &Lookup,
-    sets: &[u16],
-    test: Test,
-    values: &[u32],
-) -> InputMatch {
+pub fn match_input(text: &Text, lookup: &Lookup, sets: &[u16], test: Test, values: &[u32]) -> InputMatch {
     InputMatch::of(call!(cb_match_input, text, [], lookup, sets, test, values))
 }
 
@@ -211,14 +184,7 @@ pub fn match_input(
 /// assert_eq!(match_lookahead(&text, 1, &lookup, &[], Test::Equal, &[8]), ContextMatch::Lost(2));
 /// assert_eq!(match_lookahead(&text, 0, &lookup, &[], Test::Equal, &[]), ContextMatch::Refused(Refusal::Start));
 /// ```
-pub fn match_lookahead(
-    text: &Text,
-    start: usize,
-    lookup: &Lookup,
-    sets: &[u16],
-    test: Test,
-    values: &[u32],
-) -> ContextMatch {
+pub fn match_lookahead(text: &Text, start: usize, lookup: &Lookup, sets: &[u16], test: Test, values: &[u32]) -> ContextMatch {
     ContextMatch::of(call!(cb_match_lookahead, text, [start], lookup, sets, test, values))
 }
 
@@ -233,12 +199,6 @@ pub fn match_lookahead(
 /// assert_eq!(match_backtrack(&text, &Lookup::default(), &[], Test::Equal, &[4, 3]), ContextMatch::Matched(0));
 /// assert_eq!(match_backtrack(&text, &Lookup::default(), &[], Test::Equal, &[]), ContextMatch::Matched(2));
 /// ```
-pub fn match_backtrack(
-    text: &Text,
-    lookup: &Lookup,
-    sets: &[u16],
-    test: Test,
-    values: &[u32],
-) -> ContextMatch {
+pub fn match_backtrack(text: &Text, lookup: &Lookup, sets: &[u16], test: Test, values: &[u32]) -> ContextMatch {
     ContextMatch::of(call!(cb_match_backtrack, text, [], lookup, sets, test, values))
 }

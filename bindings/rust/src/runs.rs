@@ -171,12 +171,8 @@ pub fn book_reads(book: &[u16]) -> bool {
 /// ```
 pub fn run(done: &mut [u32], coming: &mut [u32], d: usize, idx: usize, given: &Given) -> RunAnswer {
     let Given { sets, book, records, matched, switches, allowance, depth } = given;
-    let switches = c::Switches {
-        zwnj: switches.auto_zwnj,
-        zwj: switches.auto_zwj,
-        syllables: switches.per_syllable,
-        mask: switches.mask,
-    };
+    let switches =
+        c::Switches { zwnj: switches.auto_zwnj, zwj: switches.auto_zwj, syllables: switches.per_syllable, mask: switches.mask };
     // SAFETY: slices with their lengths; both rows, which it writes to, are lent to it alone.
     RunAnswer::of(unsafe {
         c::cb_run(

@@ -31,14 +31,7 @@ pub struct Lookup {
 
 impl Default for Lookup {
     fn default() -> Self {
-        Self {
-            table: Table::Gsub,
-            auto_zwnj: false,
-            auto_zwj: false,
-            per_syllable: false,
-            mask: 1,
-            props: 0,
-        }
+        Self { table: Table::Gsub, auto_zwnj: false, auto_zwj: false, per_syllable: false, mask: 1, props: 0 }
     }
 }
 
@@ -184,18 +177,10 @@ fn said(said: c::Said) -> Result<u8, Refusal> {
 /// assert_eq!(may_skip(&mark, 0, &ignoring, Role::Input, &[]), Ok(MaySkip::Yes));
 /// assert_eq!(may_skip(&mark, 0, &Lookup::default(), Role::Input, &[]), Ok(MaySkip::No));
 /// ```
-pub fn may_skip(
-    row: &[u32],
-    place: usize,
-    lookup: &Lookup,
-    role: Role,
-    sets: &[u16],
-) -> Result<MaySkip, Refusal> {
+pub fn may_skip(row: &[u32], place: usize, lookup: &Lookup, role: Role, sets: &[u16]) -> Result<MaySkip, Refusal> {
     let context = role == Role::Context;
     let (p, n) = (sets.as_ptr(), sets.len());
-    match said(unsafe {
-        c::cb_may_skip(row.as_ptr(), row.len(), place, lookup.in_c(), context, p, n)
-    })? {
+    match said(unsafe { c::cb_may_skip(row.as_ptr(), row.len(), place, lookup.in_c(), context, p, n) })? {
         0 => Ok(MaySkip::No),
         1 => Ok(MaySkip::Yes),
         _ => Ok(MaySkip::Maybe),
@@ -215,17 +200,9 @@ pub fn may_skip(
 /// assert_eq!(may_match(&row, 0, &lookup, Role::Input, &untested), Ok(MayMatch::Maybe));
 /// assert_eq!(may_match(&row, 1, &lookup, Role::Input, &untested), Err(Refusal::Shape));
 /// ```
-pub fn may_match(
-    row: &[u32],
-    place: usize,
-    lookup: &Lookup,
-    role: Role,
-    sought: &Sought,
-) -> Result<MayMatch, Refusal> {
+pub fn may_match(row: &[u32], place: usize, lookup: &Lookup, role: Role, sought: &Sought) -> Result<MayMatch, Refusal> {
     let context = role == Role::Context;
-    match said(unsafe {
-        c::cb_may_match(row.as_ptr(), row.len(), place, lookup.in_c(), context, sought.in_c())
-    })? {
+    match said(unsafe { c::cb_may_match(row.as_ptr(), row.len(), place, lookup.in_c(), context, sought.in_c()) })? {
         0 => Ok(MayMatch::No),
         1 => Ok(MayMatch::Yes),
         _ => Ok(MayMatch::Maybe),
@@ -253,9 +230,7 @@ pub fn verdict(
 ) -> Result<Verdict, Refusal> {
     let context = role == Role::Context;
     let (words, (p, n)) = (row.as_ptr(), (sets.as_ptr(), sets.len()));
-    match said(unsafe {
-        c::cb_verdict(words, row.len(), place, lookup.in_c(), context, sought.in_c(), p, n)
-    })? {
+    match said(unsafe { c::cb_verdict(words, row.len(), place, lookup.in_c(), context, sought.in_c(), p, n) })? {
         0 => Ok(Verdict::Match),
         1 => Ok(Verdict::NotMatch),
         _ => Ok(Verdict::Skip),
@@ -275,20 +250,10 @@ pub fn verdict(
 /// assert_eq!(forward(&row, 3, 0, &Lookup::default(), Role::Input, &Sought::id(7), &[]), Walked::Stopped(2));
 /// assert_eq!(forward(&row, 2, 0, &ignoring, Role::Input, &Sought::id(7), &[]), Walked::RanOut(2));
 /// ```
-pub fn forward(
-    row: &[u32],
-    len: usize,
-    place: usize,
-    lookup: &Lookup,
-    role: Role,
-    sought: &Sought,
-    sets: &[u16],
-) -> Walked {
+pub fn forward(row: &[u32], len: usize, place: usize, lookup: &Lookup, role: Role, sought: &Sought, sets: &[u16]) -> Walked {
     let context = role == Role::Context;
     let (words, (p, n)) = (row.as_ptr(), (sets.as_ptr(), sets.len()));
-    Walked::of(unsafe {
-        c::cb_forward(words, row.len(), len, place, lookup.in_c(), context, sought.in_c(), p, n)
-    })
+    Walked::of(unsafe { c::cb_forward(words, row.len(), len, place, lookup.in_c(), context, sought.in_c(), p, n) })
 }
 
 /// The nearest glyph before a place that isn't passed over; harfrust's `SkippingIterator::prev`. Stopped at `p` the extent is
@@ -304,17 +269,8 @@ pub fn forward(
 /// assert_eq!(backward(&row, 0, &lookup, Role::Context, &Sought::id(5), &[]), Walked::RanOut(0));
 /// assert_eq!(backward(&row, 3, &lookup, Role::Context, &Sought::id(5), &[]), Walked::Refused(Refusal::Shape));
 /// ```
-pub fn backward(
-    row: &[u32],
-    place: usize,
-    lookup: &Lookup,
-    role: Role,
-    sought: &Sought,
-    sets: &[u16],
-) -> Walked {
+pub fn backward(row: &[u32], place: usize, lookup: &Lookup, role: Role, sought: &Sought, sets: &[u16]) -> Walked {
     let context = role == Role::Context;
     let (words, (p, n)) = (row.as_ptr(), (sets.as_ptr(), sets.len()));
-    Walked::of(unsafe {
-        c::cb_backward(words, row.len(), place, lookup.in_c(), context, sought.in_c(), p, n)
-    })
+    Walked::of(unsafe { c::cb_backward(words, row.len(), place, lookup.in_c(), context, sought.in_c(), p, n) })
 }

@@ -11,13 +11,7 @@ fn around(nine: Glyph) -> Vec<u32> {
 }
 
 fn input(coming: &[u32], props: u32, values: &[u32]) -> InputMatch {
-    match_input(
-        &Text::coming(coming),
-        &Lookup { props, ..Lookup::default() },
-        &[],
-        Test::Equal,
-        values,
-    )
+    match_input(&Text::coming(coming), &Lookup { props, ..Lookup::default() }, &[], Test::Equal, values)
 }
 
 /// A success with these positions, and 0 in every other slot.
@@ -67,42 +61,27 @@ fn k10_allowances() {
         assert_eq!(Budget::for_table_bytes(bytes).remaining(), (opens, opens));
     }
     let mut budget = Budget::new(1, 0);
-    assert_eq!(
-        (budget.work(2), budget.work(0), budget.alloc(1, 1)),
-        (Err(Exhausted), Ok(()), Err(Exhausted))
-    );
+    assert_eq!((budget.work(2), budget.work(0), budget.alloc(1, 1)), (Err(Exhausted), Ok(()), Err(Exhausted)));
     assert_eq!((budget.work(1), budget.remaining()), (Ok(()), (0, 0)));
 }
 
 #[test]
 fn k15_numbers_of_values() {
     let long = row(&[glyph(7); 64]);
-    assert!(
-        matches!(input(&long, 0, &[7; 63]), InputMatch::Matched(m) if m.count == 64 && m.total == 64)
-    );
+    assert!(matches!(input(&long, 0, &[7; 63]), InputMatch::Matched(m) if m.count == 64 && m.total == 64));
     assert_eq!(input(&long, 0, &[7; 64]), InputMatch::Refused(Refusal::Values));
     assert_eq!(input(&long, 0, &[]), matched(1, 1, &[0]));
 }
 
-/// Each field of a lookup and of what is sought turns an answer, so none is handed over in another's place.
+/// Each field turns an answer, so none is handed over in another's place.
 #[test]
-fn each_field_is_read() {
+fn each_field_of_a_lookup_is_read() {
     let skip = |flags: u8, role, lookup: Lookup| {
-        may_skip(
-            &Glyph { flags: flags | flags::IGNORABLE, ..glyph(9) }.words(),
-            0,
-            &lookup,
-            role,
-            &[],
-        )
-        .unwrap()
+        may_skip(&Glyph { flags: flags | flags::IGNORABLE, ..glyph(9) }.words(), 0, &lookup, role, &[]).unwrap()
     };
     let off = Lookup::default();
     assert_eq!(skip(flags::ZWNJ, Role::Input, off), MaySkip::No);
-    assert_eq!(
-        skip(flags::ZWNJ, Role::Input, Lookup { table: Table::Gpos, ..off }),
-        MaySkip::Maybe
-    );
+    assert_eq!(skip(flags::ZWNJ, Role::Input, Lookup { table: Table::Gpos, ..off }), MaySkip::Maybe);
     assert_eq!(skip(flags::ZWNJ, Role::Input, Lookup { auto_zwnj: true, ..off }), MaySkip::No);
     assert_eq!(skip(flags::ZWNJ, Role::Context, Lookup { auto_zwnj: true, ..off }), MaySkip::Maybe);
     assert_eq!(skip(flags::ZWJ, Role::Input, off), MaySkip::No);
@@ -112,26 +91,22 @@ fn each_field_is_read() {
     let filtering = Lookup { props: lookup_flags::USE_FILTERING_SET | 3 << 16, ..off };
     assert_eq!(may_skip(&mark, 0, &filtering, Role::Input, &[3, 9]), Ok(MaySkip::No));
     assert_eq!(may_skip(&mark, 0, &filtering, Role::Input, &[3, 8]), Ok(MaySkip::Yes));
-    assert_eq!(
-        verdict(&mark, 0, &filtering, Role::Input, &Sought::id(8), &[3, 9]),
-        Ok(Verdict::NotMatch)
-    );
+    assert_eq!(verdict(&mark, 0, &filtering, Role::Input, &Sought::id(8), &[3, 9]), Ok(Verdict::NotMatch));
     assert_eq!(verdict(&mark, 0, &filtering, Role::Input, &Sought::id(9), &[]), Ok(Verdict::Skip));
+}
 
+#[test]
+fn each_field_of_what_is_sought_is_read() {
+    let off = Lookup::default();
     let second = Glyph { syllable: 2, ..glyph(9) }.words();
-    let ask = |lookup: Lookup, sought: Sought| {
-        may_match(&second, 0, &lookup, Role::Input, &sought).unwrap()
-    };
+    let ask = |lookup: Lookup, sought: Sought| may_match(&second, 0, &lookup, Role::Input, &sought).unwrap();
     let nine = Sought { syllable: 1, ..Sought::id(9) };
     assert_eq!(ask(off, nine), MayMatch::Yes);
     assert_eq!(ask(off, Sought { value: 8, ..nine }), MayMatch::No);
     assert_eq!(ask(off, Sought { value: 8, test: Test::Any, ..nine }), MayMatch::Yes);
     assert_eq!(ask(off, Sought { value: 8, test: Test::Nothing, ..nine }), MayMatch::Maybe);
     assert_eq!(ask(Lookup { per_syllable: true, ..off }, nine), MayMatch::No);
-    assert_eq!(
-        ask(Lookup { per_syllable: true, ..off }, Sought { syllable: 2, ..nine }),
-        MayMatch::Yes
-    );
+    assert_eq!(ask(Lookup { per_syllable: true, ..off }, Sought { syllable: 2, ..nine }), MayMatch::Yes);
     assert_eq!(ask(Lookup { mask: 2, ..off }, nine), MayMatch::No);
 }
 
@@ -165,20 +140,17 @@ fn three_matched(done: &[u32], coming: &[u32]) -> InputMatch {
     match_input(&text, &Lookup::default(), &[], Test::Equal, &[2, 3])
 }
 
+/// Record (1, 0) of a book.
+fn given(book: &[u16], matched: InputMatch, allowance: u32, depth: usize) -> Given<'_> {
+    Given { sets: &[], book, records: &[1, 0], matched, switches: Switches::default(), allowance, depth }
+}
+
 /// Runs record (1, 0) of a book over signs 1, 2, 3, and compares the answer and every word of both rows.
 fn run_card(book: &[u16], allowance: u32, depth: usize, wanted: Run, text: (&[Glyph], &[Glyph])) {
     let (mut done, mut coming) = laid_out();
     let matched = three_matched(&done, &coming);
-    let given = Given {
-        sets: &[],
-        book,
-        records: &[1, 0],
-        matched,
-        switches: Switches::default(),
-        allowance,
-        depth,
-    };
-    assert_eq!(run(&mut done, &mut coming, 0, 1021, &given), RunAnswer::Ended(wanted));
+    let answer = run(&mut done, &mut coming, 0, 1021, &given(book, matched, allowance, depth));
+    assert_eq!(answer, RunAnswer::Ended(wanted));
     assert_eq!((done, coming), rows(text.0, text.1));
 }
 
@@ -204,16 +176,7 @@ fn full_writes_nothing_of_the_result() {
     let (_, mut coming) = laid_out();
     let mut done = rows(&before, &[]).0;
     let matched = three_matched(&done, &coming);
-    let given = Given {
-        sets: &[],
-        book: &DOUBLES,
-        records: &[1, 0],
-        matched,
-        switches: Switches::default(),
-        allowance: 1,
-        depth: 1,
-    };
-    let answer = run(&mut done, &mut coming, 1021, 1021, &given);
+    let answer = run(&mut done, &mut coming, 1021, 1021, &given(&DOUBLES, matched, 1, 1));
     assert!(
         matches!(answer, RunAnswer::Ended(r) if r.ending == Ending::Full && r.positions() == [1021, 1022, 1023] && r.spent == 1)
     );
@@ -228,50 +191,24 @@ fn refused_runs_change_no_word() {
     let (mut done, mut coming) = laid_out();
     let (done_before, coming_before) = (done.clone(), coming.clone());
     let good = three_matched(&done, &coming);
-    let given = Given {
-        sets: &[],
-        book: &DOUBLES,
-        records: &[1, 0],
-        matched: good,
-        switches: Switches::default(),
-        allowance: 1,
-        depth: 1,
-    };
-    let mut refused = |words: usize, idx: usize, given: Given| match run(
-        &mut done[..words],
-        &mut coming,
-        0,
-        idx,
-        &given,
-    ) {
+    let given = given(&DOUBLES, good, 1, 1);
+    let mut refused = |words: usize, idx: usize, given: Given| match run(&mut done[..words], &mut coming, 0, idx, &given) {
         RunAnswer::Refused(why) => why,
         RunAnswer::Ended(ran) => panic!("{ran:?}"),
     };
     // Wrong in everything; then one thing after another is put right.
-    let mut bad = Given {
-        records: &[1],
-        matched: InputMatch::Lost(2),
-        book: &DOUBLES[..7],
-        depth: 65,
-        ..given
-    };
+    let mut bad = Given { records: &[1], matched: InputMatch::Lost(2), book: &DOUBLES[..7], depth: 65, ..given };
     assert_eq!(refused(4092, 1024, bad).number(), 1);
     assert_eq!(refused(4096, 1024, bad), Refusal::Shape);
     bad.records = &[1, 0];
     assert_eq!(refused(4096, 1024, bad), Refusal::Cursor);
     assert_eq!(refused(4096, 1021, bad), Refusal::Limits);
-    assert_eq!(
-        refused(4096, 1021, Given { depth: 1, allowance: MOST_ALLOWANCE + 1, ..bad }),
-        Refusal::Limits
-    );
+    assert_eq!(refused(4096, 1021, Given { depth: 1, allowance: MOST_ALLOWANCE + 1, ..bad }), Refusal::Limits);
     bad.depth = MAX_NESTING_LEVEL;
     assert_eq!(refused(4096, 1021, bad), Refusal::Book);
     bad.book = &DOUBLES;
     assert_eq!(refused(4096, 1021, bad), Refusal::Match);
-    assert_eq!(
-        refused(4096, 1021, Given { matched: InputMatch::Ligature, ..given }),
-        Refusal::Match
-    );
+    assert_eq!(refused(4096, 1021, Given { matched: InputMatch::Ligature, ..given }), Refusal::Match);
     assert_eq!(refused(4096, 1020, given), Refusal::Match);
     assert_eq!((done, coming), (done_before, coming_before));
 }
@@ -282,23 +219,11 @@ fn refused_matches() {
     let (text, lookup) = (Text::coming(&coming), Lookup::default());
     let shape = match_input(&Text { d: 1, ..text }, &lookup, &[], Test::Any, &[]);
     assert_eq!((shape, shape.number()), (InputMatch::Refused(Refusal::Shape), 1));
-    assert_eq!(
-        match_input(&text, &lookup, &[1], Test::Any, &[]),
-        InputMatch::Refused(Refusal::Shape)
-    );
-    assert_eq!(
-        match_input(&Text { idx: 3, ..text }, &lookup, &[], Test::Any, &[]),
-        InputMatch::Refused(Refusal::Cursor)
-    );
-    assert_eq!(
-        match_lookahead(&text, 0, &lookup, &[], Test::Any, &[1; 65]),
-        ContextMatch::Refused(Refusal::Values)
-    );
+    assert_eq!(match_input(&text, &lookup, &[1], Test::Any, &[]), InputMatch::Refused(Refusal::Shape));
+    assert_eq!(match_input(&Text { idx: 3, ..text }, &lookup, &[], Test::Any, &[]), InputMatch::Refused(Refusal::Cursor));
+    assert_eq!(match_lookahead(&text, 0, &lookup, &[], Test::Any, &[1; 65]), ContextMatch::Refused(Refusal::Values));
     assert_eq!(match_lookahead(&text, 0, &lookup, &[], Test::Any, &[]).number(), 6);
-    assert_eq!(
-        match_backtrack(&text, &lookup, &[], Test::Any, &[1; 65]),
-        ContextMatch::Refused(Refusal::Values)
-    );
+    assert_eq!(match_backtrack(&text, &lookup, &[], Test::Any, &[1; 65]), ContextMatch::Refused(Refusal::Values));
     let attached = around(Glyph { ligature_id: 3, component: 1, ..glyph(9) });
     assert_eq!(input(&attached, 0, &[9]), InputMatch::Ligature);
     assert_eq!(input(&attached, 0, &[9]).number(), 5);
