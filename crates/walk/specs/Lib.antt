@@ -2,6 +2,7 @@ pub mod Walk
 pub mod Calls
 pub mod Means
 pub mod Steps
+pub mod Passing
 pub mod Laws
 pub mod Backward
 pub mod Parts

@@ -8,6 +8,7 @@ ghost use lib.ListN.{length};
 ghost use Rattle.glyph.specs.Glyph.{glyphsOf};
 ghost use Rattle.verdict.specs.Verdict.{judgeAt};
 ghost use Rattle.walk.specs.Walk.{walkFrom, walkBack};
+ghost use Rattle.walk.specs.Passing.{skipAt, yesBefore};
 ghost use Rattle.walk.specs.Calls.{badWalk, forwardOf, backwardOf};
 
 pub enum Walked {
@@ -99,6 +100,21 @@ fn back_extent(p: usize) -> usize
     if p == 0 { 0 } else { p - 1 }
 }
 
+// How many glyphs right before a place are skip Yes, one after the other. Counted upward, for the compiler then keeps one counter.
+fn passed_back(row: &[u32], place: usize, m: Matcher, sets: &[u16]) -> usize
+    requires { ⌜ place ≤ length (glyphsOf (now row)) ⌝ }
+    ensures { λ r. ⌜ r ≡ yesBefore (skipAt m (now (sets .entry)) (glyphsOf (now (row .entry)))) place ⌝ }
+{
+    let mut k = 0;
+    while k < place {
+        if !verdict::is_skip_yes(m, sets, glyph::read(row, place - 1 - k)) {
+            return k;
+        }
+        k += 1;
+    }
+    k
+}
+
 // The backward walk: the next place to test is the one before `place`.
 pub fn backward_from(
     row: &[u32],
@@ -112,16 +128,16 @@ pub fn backward_from(
     ensures { λ r. ⌜ r ≡ walkBack (judgeAt m sign syllable (now (sets .entry)) (glyphsOf (now (row .entry)))) place ⌝ }
 {
     let mut p = place;
-    while 0 < p {
+    loop {
+        p -= passed_back(row, p, m, sets);
+        if p == 0 {
+            return Walked::RanOut(0);
+        }
         p -= 1;
-        let g = glyph::read(row, p);
-        if !verdict::is_skip_yes(m, sets, g) {
-            match verdict::on_rest(m, sign, syllable, g) {
-                Verdict::Match => return Walked::Found(p),
-                Verdict::NotMatch => return Walked::Stopped(back_extent(p)),
-                Verdict::Skip => {}
-            }
+        match verdict::on_rest(m, sign, syllable, glyph::read(row, p)) {
+            Verdict::Match => return Walked::Found(p),
+            Verdict::NotMatch => return Walked::Stopped(back_extent(p)),
+            Verdict::Skip => {}
         }
     }
-    Walked::RanOut(0)
 }
