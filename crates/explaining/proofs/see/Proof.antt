@@ -1,0 +1,40 @@
+-- Each part is what is asked for it. Assumes nothing.
+use borrow.Author.Needs.{needs}
+use Rattle.explaining.proofs.see.Statement.{statement}
+use Rattle.explaining.proofs.see.Tie as tie
+
+may-skip-requires : tie.Need-may-skip-requires
+may-skip-requires c κs = search needs
+
+why-skip-requires : tie.Need-why-skip-requires
+why-skip-requires c κs = search needs
+
+may-match-requires : tie.Need-may-match-requires
+may-match-requires c κs = search needs
+
+why-match-requires : tie.Need-why-match-requires
+why-match-requires c κs = search needs
+
+judge-requires : tie.Need-judge-requires
+judge-requires c κs = search needs
+
+returns : tie.Need-returns
+returns c =
+    λ j. record {
+      skip = c .before .before .before .before .may-skip .ensures j;
+      why = c .before .before .before .why-skip .ensures j;
+      may = c .before .before .may-match .ensures j;
+      how = c .before .why-match .ensures j;
+      verdict = c .judge .ensures j;
+    }
+
+pub see-spec : {M : Type 1} → statement M
+see-spec =
+    tie.close
+    (tie.spec
+    may-skip-requires
+    why-skip-requires
+    may-match-requires
+    why-match-requires
+    judge-requires
+    returns)
