@@ -1,0 +1,338 @@
+// What a frame of the bench tape was answered, and why: on standard input frames, a line each; on standard output what the
+// matcher saw of each glyph, in words, and the tape's answer. What is said comes from proved functions: `explaining` for the reasons,
+// `matching` and `tape` for the answer.
+mod answer;
+mod head;
+mod rows;
+mod words;
+
+use crate::words::ROOM;
+use explaining::Told;
+use explaining::Turn;
+use glyph::Glyph;
+use libc::STDIN_FILENO;
+use matching::InputAnswer;
+use matching::Lookup;
+use tape::Decoded;
+use tape::Head;
+use verdict::Matcher;
+use verdict::Sign;
+use verdict::Table;
+use verdict::Test;
+ghost use Prim.Native.Nat.{_+_, _≤_, _<_};
+ghost use lib.ListN.{length};
+ghost use Rattle.glyph.specs.Glyph.{glyphsOf};
+ghost use Rattle.tape.specs.FrameLaws.{Bounded};
+ghost use Rattle.tape.specs.Tape.{mostKept};
+
+// What is kept from read to read: the bytes of the line so far, and the number of lines before it.
+pub struct Turns {
+    pub kept: usize,
+    pub lines: u64,
+    pub more: bool,
+}
+
+// ---- a frame
+
+// The glyph at a place, for the value that is due.
+fn tell_place(
+    line: &mut [u8; ROOM],
+    searched: &[u32],
+    text: &[u32],
+    first: Glyph,
+    p: usize,
+    m: Matcher,
+    due: u32,
+) -> Turn
+    requires { ⌜ p < length (glyphsOf (now text)) ⌝ }
+{
+    let sets = [0u16; 0];
+    let sign = Sign {
+        test: Test::Equal,
+        value: due,
+    };
+    let this = glyph::read(text, p);
+    let told = explaining::tell(m, &sets, sign, first, this, searched);
+    let seen = told.seen;
+    let turn = told.turn;
+    rows::tested(line, p, this, due, seen, turn, m.props);
+    tell_joined(line, first, this, told);
+    turn
+}
+
+// The ligature rule is asked of glyphs that match.
+fn tell_joined(line: &mut [u8; ROOM], first: Glyph, this: Glyph, told: Told) {
+    let turn = told.turn;
+    let joined = told.joined;
+    let base = joined.base;
+    match turn {
+        Turn::Passed | Turn::Stopped => {}
+        Turn::Taken | Turn::Unlike => rows::joined(line, first, this, base, joined.joins),
+    }
+}
+
+fn is_over(turn: Turn) -> bool {
+    match turn {
+        Turn::Passed | Turn::Taken => false,
+        Turn::Stopped | Turn::Unlike => true,
+    }
+}
+
+// The next value is due once a glyph is taken.
+fn next_due(due: usize, turn: Turn) -> usize {
+    match turn {
+        Turn::Taken => std::num::wrapping_add_usize(due, 1),
+        Turn::Passed | Turn::Stopped | Turn::Unlike => due,
+    }
+}
+
+// Each glyph after the cursor, until every value is taken, a walk stops or runs out, or the ligature rule refuses.
+fn tell_rows(
+    line: &mut [u8; ROOM],
+    searched: &[u32],
+    text: &[u32],
+    idx: usize,
+    m: Matcher,
+    values: &[u32],
+) {
+    let len = glyph::count(text);
+    if len <= idx {
+        return;
+    }
+    let first = glyph::read(text, idx);
+    rows::titles(line);
+    rows::cursor(line, idx, first);
+    let mut p = idx + 1;
+    let mut due = 0;
+    while p < len {
+        if values.len() <= due {
+            rows::rest(line, p, len);
+            return;
+        }
+        let turn = tell_place(line, searched, text, first, p, m, values[due]);
+        p += 1;
+        if is_over(turn) {
+            rows::rest(line, p, len);
+            return;
+        }
+        due = next_due(due, turn);
+    }
+    if due < values.len() {
+        rows::ran_out(line, values[due]);
+    }
+}
+
+// Under GPOS nothing is searched for a base.
+fn searched_words(table: Table, done: usize) -> usize
+    ensures { λ r. ⌜ r ≤ done ⌝ }
+{
+    match table {
+        Table::Gsub => done,
+        Table::Gpos => 0,
+    }
+}
+
+// The rows of a frame that isn't refused, and its answer.
+fn tell_match(
+    line: &mut [u8; ROOM],
+    before: &[u32],
+    text: &[u32],
+    idx: usize,
+    lookup: Lookup,
+    values: &[u32],
+) {
+    let settings = lookup.settings;
+    let table = settings.table;
+    let sets = [0u16; 0];
+    let d = glyph::count(before);
+    let len = glyph::count(text);
+    let found = matching::match_input(
+        before,
+        d,
+        text,
+        len,
+        idx,
+        lookup,
+        &sets,
+        Test::Equal,
+        values,
+    );
+    let said = found.answer;
+    let m = verdict::matcher_of(settings, false, lookup.mask, lookup.props);
+    let n = searched_words(table, before.len());
+    match said {
+        InputAnswer::Refused(_) => {}
+        InputAnswer::Matched { end: _, total: _ } | InputAnswer::Lost(_) | InputAnswer::Ligature =>
+            { tell_rows(line, &before[0..n], text, idx, m, values) }
+    }
+    answer::in_words(line, found);
+}
+
+fn tell_frame(
+    line: &mut [u8; ROOM],
+    lines: u64,
+    h: Head,
+    values: &[u32; tape::MOST_VALUES],
+    done: &[u32; tape::ROW],
+    coming: &[u32; tape::ROW],
+)
+    requires { ⌜ Bounded h ⌝ }
+{
+    let n = h.values;
+    let d = h.done;
+    let c = h.coming;
+    let settings = h.settings;
+    let lookup = Lookup {
+        settings,
+        mask: h.mask,
+        props: h.props,
+    };
+    let asked = &values[..];
+    let before = &done[..];
+    let text = &coming[..];
+    head::opening(line, lines, settings);
+    head::lookup(line, h.props);
+    head::sizes(line, h.mask, d / glyph::WORDS, c / glyph::WORDS, h.cursor);
+    head::values(line, &asked[0..n]);
+    tell_match(
+        line,
+        &before[0..d],
+        &text[0..c],
+        h.cursor,
+        lookup,
+        &asked[0..n],
+    );
+}
+
+// ---- a line
+
+// The tape's own answer, without its 0A, and an empty line.
+fn tell_answer(frame: &[u8], text: &mut [u8; ROOM]) {
+    let mut out = [0u8; tape::MOST_ANSWER];
+    let end = tape::answer_line(frame, &mut out, 0);
+    let all = &out[..];
+    answer::on_tape(text, &all[0..end]);
+    words::end(text, 0);
+}
+
+fn tell_line(frame: &[u8], lines: u64) {
+    let mut text = [0u8; ROOM];
+    let mut values = [0u32; tape::MOST_VALUES];
+    let mut done = [0u32; tape::ROW];
+    let mut coming = [0u32; tape::ROW];
+    match tape::decode(frame, &mut values, &mut done, &mut coming) {
+        Decoded::NoFrame => head::no_frame(&mut text, lines),
+        Decoded::Frame(h) => tell_frame(&mut text, lines, h, &values, &done, &coming),
+    }
+    tell_answer(frame, &mut text);
+}
+
+// ---- the input
+
+fn keep(kept: &mut [u8; tape::MOST_KEPT], n: usize, b: u8) -> usize
+    requires { ⌜ n ≤ mostKept ⌝ }
+    ensures { λ r. ⌜ r ≤ mostKept ⌝ }
+{
+    if n < tape::MOST_KEPT {
+        kept[n] = b;
+        return n + 1;
+    }
+    n
+}
+
+// A byte ends the line, which is told, or is kept, or only makes a long line longer.
+fn take_byte(kept: &mut [u8; tape::MOST_KEPT], n: usize, lines: u64, b: u8) -> Turns
+    requires { ⌜ n ≤ mostKept ⌝ }
+    ensures { λ r. ⌜ r .kept ≤ mostKept ⌝ }
+{
+    if b == tape::NEWLINE {
+        let line = &kept[..];
+        let now = std::num::wrapping_add_u64(lines, 1);
+        tell_line(&line[0..n], now);
+        return Turns {
+            kept: 0,
+            lines: now,
+            more: true,
+        };
+    }
+    Turns {
+        kept: keep(kept, n, b),
+        lines,
+        more: true,
+    }
+}
+
+fn take_piece(piece: &[u8], kept: &mut [u8; tape::MOST_KEPT], n: usize, lines: u64) -> Turns
+    requires { ⌜ n ≤ mostKept ⌝ }
+    ensures { λ r. ⌜ r .kept ≤ mostKept ⌝ }
+{
+    let mut held = n;
+    let mut told = lines;
+    let mut at = 0;
+    while at < piece.len() {
+        let t = take_byte(kept, held, told, piece[at]);
+        held = t.kept;
+        told = t.lines;
+        at += 1;
+    }
+    Turns {
+        kept: held,
+        lines: told,
+        more: true,
+    }
+}
+
+fn one_read(kept: &mut [u8; tape::MOST_KEPT], n: usize, lines: u64) -> Turns
+    requires { ⌜ n ≤ mostKept ⌝ }
+    ensures { λ r. ⌜ r .kept ≤ mostKept ⌝ }
+{
+    let mut space = io::large_buffer();
+    let got = libc::read(STDIN_FILENO, &mut space);
+    if got <= 0 {
+        return Turns {
+            kept: n,
+            lines,
+            more: false,
+        };
+    }
+    let size = io::count(got, &space);
+    take_piece(&space[..size], kept, n, lines)
+}
+
+// Reads to the end, and says what is kept of a last line that lacks its 0A.
+fn read_all(kept: &mut [u8; tape::MOST_KEPT]) -> Turns
+    ensures { λ r. ⌜ r .kept ≤ mostKept ⌝ }
+{
+    let mut n = 0;
+    let mut lines = 0;
+    let mut turns = u64::MAX;
+    while turns > 0 {
+        let t = one_read(kept, n, lines);
+        n = t.kept;
+        lines = t.lines;
+        if !t.more {
+            return t;
+        }
+        turns -= 1;
+    }
+    Turns {
+        kept: n,
+        lines,
+        more: false,
+    }
+}
+
+fn run(kept: &mut [u8; tape::MOST_KEPT]) {
+    let t = read_all(kept);
+    let n = t.kept;
+    if n == 0 {
+        return;
+    }
+    let line = &kept[..];
+    tell_line(&line[0..n], std::num::wrapping_add_u64(t.lines, 1));
+}
+
+fn main() {
+    let mut kept = [0u8; tape::MOST_KEPT];
+    run(&mut kept);
+}

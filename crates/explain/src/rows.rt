@@ -1,0 +1,254 @@
+// A row for each glyph from the cursor on: what the matcher saw of it, and why.
+use crate::words;
+use crate::words::ROOM;
+use explaining::MatchReason;
+use explaining::Seen;
+use explaining::SkipReason;
+use explaining::Turn;
+use glyph::Glyph;
+use ligature::Ligbase;
+use verdict::MayMatch;
+use verdict::MaySkip;
+
+// The columns: the numbers end before theirs, the words begin at theirs.
+const PLACE: usize = 5;
+
+const ID: usize = 16;
+
+const CLASS: usize = 17;
+
+const DUE: usize = 37;
+
+const SKIP: usize = 39;
+
+const MATCH: usize = 46;
+
+const VERDICT: usize = 54;
+
+pub fn titles(text: &mut [u8; ROOM]) {
+    let at = words::say(
+        text,
+        0,
+        b"place         id class            due  skip?  match?  verdict",
+    );
+    words::end(text, at);
+}
+
+fn class(text: &mut [u8; ROOM], at: usize, props: u16) -> usize {
+    match props / 2 % 8 {
+        0 => words::say(text, at, b"none"),
+        1 => words::say(text, at, b"base"),
+        2 => words::say(text, at, b"ligature"),
+        3 => words::say(text, at, b"base+lig"),
+        4 => words::say(text, at, b"mark"),
+        5 => words::say(text, at, b"base+mark"),
+        6 => words::say(text, at, b"lig+mark"),
+        _ => words::say(text, at, b"all three"),
+    }
+}
+
+// Place, id and class.
+fn opening(text: &mut [u8; ROOM], place: usize, g: Glyph) -> usize {
+    let at = words::right(text, 0, PLACE, (place % 65536) as u32);
+    let at = words::right(text, at, ID, g.id);
+    let at = words::pad(text, at, CLASS);
+    class(text, at, g.props)
+}
+
+pub fn cursor(text: &mut [u8; ROOM], place: usize, g: Glyph) {
+    let at = opening(text, place, g);
+    let at = words::pad(text, at, VERDICT);
+    let at = words::say(text, at, b"the cursor: never tested");
+    words::end(text, at);
+}
+
+fn skip(text: &mut [u8; ROOM], at: usize, s: MaySkip) -> usize {
+    match s {
+        MaySkip::No => words::say(text, at, b"No"),
+        MaySkip::Yes => words::say(text, at, b"Yes"),
+        MaySkip::Maybe => words::say(text, at, b"Maybe"),
+    }
+}
+
+fn may(text: &mut [u8; ROOM], at: usize, m: MayMatch) -> usize {
+    match m {
+        MayMatch::No => words::say(text, at, b"No"),
+        MayMatch::Yes => words::say(text, at, b"Yes"),
+        MayMatch::Maybe => words::say(text, at, b"Maybe"),
+    }
+}
+
+fn outside(text: &mut [u8; ROOM], at: usize, asked: u32) -> usize {
+    let at = words::say(text, at, b"not in mark set ");
+    words::number(text, at, asked / 65536)
+}
+
+fn other_class(text: &mut [u8; ROOM], at: usize, asked: u32, props: u16) -> usize {
+    let at = words::say(text, at, b"class ");
+    let at = words::number(text, at, (props / 256) as u32);
+    let at = words::say(text, at, b", asked ");
+    words::number(text, at, asked / 256 % 256)
+}
+
+fn why_skip(text: &mut [u8; ROOM], at: usize, why: SkipReason, asked: u32, props: u16) -> usize {
+    match why {
+        SkipReason::IgnoredBase => words::say(text, at, b"flag 2 ignores bases"),
+        SkipReason::IgnoredLigature => words::say(text, at, b"flag 4 ignores ligatures"),
+        SkipReason::IgnoredMark => words::say(text, at, b"flag 8 ignores marks"),
+        SkipReason::OutsideSet => outside(text, at, asked),
+        SkipReason::OtherClass => other_class(text, at, asked, props),
+        SkipReason::DefaultIgnorable => words::say(text, at, b"default ignorable"),
+        SkipReason::KeptZwnj => words::say(text, at, b"a ZWNJ isn't ignored"),
+        SkipReason::KeptZwj => words::say(text, at, b"a ZWJ isn't ignored"),
+        SkipReason::KeptHidden => words::say(text, at, b"a hidden glyph isn't ignored"),
+        SkipReason::NotIgnorable => words::say(text, at, b"not ignorable"),
+    }
+}
+
+fn why_match(text: &mut [u8; ROOM], at: usize, how: MatchReason) -> usize {
+    match how {
+        MatchReason::NoMask => words::say(text, at, b"no mask bit"),
+        MatchReason::OtherSyllable => words::say(text, at, b"other syllable"),
+        MatchReason::OtherId => words::say(text, at, b"other id"),
+        MatchReason::EqualId => words::say(text, at, b"equal id"),
+        MatchReason::AnyId => words::say(text, at, b"any glyph"),
+        MatchReason::NoTest => words::say(text, at, b"no test"),
+    }
+}
+
+// A glyph that could be skipped or not is passed over because it doesn't match.
+fn unless_yes(text: &mut [u8; ROOM], at: usize, s: MaySkip, how: MatchReason) -> usize {
+    match s {
+        MaySkip::Yes => at,
+        MaySkip::No | MaySkip::Maybe => {
+            let at = words::say(text, at, b", ");
+            why_match(text, at, how)
+        }
+    }
+}
+
+// The verdict, and what decided it.
+fn verdict(
+    text: &mut [u8; ROOM],
+    at: usize,
+    turn: Turn,
+    skip: MaySkip,
+    why: SkipReason,
+    how: MatchReason,
+    asked: u32,
+    props: u16,
+) -> usize {
+    match turn {
+        Turn::Passed => {
+            let at = words::say(text, at, b"passed over: ");
+            let at = why_skip(text, at, why, asked, props);
+            unless_yes(text, at, skip, how)
+        }
+        Turn::Taken => {
+            let at = words::say(text, at, b"matches: ");
+            why_match(text, at, how)
+        }
+        Turn::Stopped => {
+            let at = words::say(text, at, b"stops: ");
+            let at = why_skip(text, at, why, asked, props);
+            let at = words::say(text, at, b", ");
+            why_match(text, at, how)
+        }
+        Turn::Unlike => words::say(text, at, b"matches, but the ligature rule refuses it"),
+    }
+}
+
+// What was asked of a glyph for a value, and what was answered.
+fn asked(text: &mut [u8; ROOM], at: usize, due: u32, s: MaySkip, y: MayMatch) -> usize {
+    let at = words::right(text, at, DUE, due);
+    let at = words::pad(text, at, SKIP);
+    let at = skip(text, at, s);
+    let at = words::pad(text, at, MATCH);
+    let at = may(text, at, y);
+    words::pad(text, at, VERDICT)
+}
+
+// The row of a glyph that was tested for a value.
+pub fn tested(
+    text: &mut [u8; ROOM],
+    place: usize,
+    g: Glyph,
+    due: u32,
+    seen: Seen,
+    turn: Turn,
+    props: u32,
+) {
+    let s = seen.skip;
+    let why = seen.why;
+    let y = seen.may;
+    let how = seen.how;
+    let at = opening(text, place, g);
+    let at = asked(text, at, due, s, y);
+    let at = verdict(text, at, turn, s, why, how, props, g.props);
+    words::end(text, at);
+}
+
+// Ligature id and component.
+fn of_ligature(text: &mut [u8; ROOM], at: usize, g: Glyph) -> usize {
+    let at = words::number(text, at, g.lig as u32);
+    let at = words::say(text, at, b"/");
+    words::number(text, at, g.comp as u32)
+}
+
+fn search(text: &mut [u8; ROOM], at: usize, base: Ligbase) -> usize {
+    match base {
+        Ligbase::NotChecked => words::say(text, at, b"done isn't searched for ligature "),
+        Ligbase::MayNotSkip => words::say(
+            text,
+            at,
+            b"done has no base that is skip Yes for ligature ",
+        ),
+        Ligbase::MaySkip => words::say(
+            text,
+            at,
+            b"done has a base, which is skip Yes, for ligature ",
+        ),
+    }
+}
+
+fn compared(text: &mut [u8; ROOM], first: Glyph, this: Glyph, base: Ligbase) {
+    let at = words::pad(text, 0, CLASS);
+    let at = words::say(text, at, b"ligature/component: the cursor glyph has ");
+    let at = of_ligature(text, at, first);
+    let at = words::say(text, at, b", this one ");
+    let at = of_ligature(text, at, this);
+    words::end(text, at);
+    let at = words::pad(text, 0, CLASS);
+    let at = search(text, at, base);
+    let at = words::number(text, at, first.lig as u32);
+    words::end(text, at);
+}
+
+// What the ligature rule looked at, where it searched for a base or refused the glyph.
+pub fn joined(text: &mut [u8; ROOM], first: Glyph, this: Glyph, base: Ligbase, joins: bool) {
+    match base {
+        Ligbase::NotChecked => {
+            if !joins {
+                compared(text, first, this, base);
+            }
+        }
+        Ligbase::MayNotSkip | Ligbase::MaySkip => compared(text, first, this, base),
+    }
+}
+
+pub fn ran_out(text: &mut [u8; ROOM], due: u32) {
+    let at = words::say(text, 0, b"no glyph is left for the value ");
+    let at = words::number(text, at, due);
+    let at = words::say(text, at, b": the walk ran out");
+    words::end(text, at);
+}
+
+pub fn rest(text: &mut [u8; ROOM], from: usize, len: usize) {
+    if len <= from {
+        return;
+    }
+    let at = words::say(text, 0, b"from place ");
+    let at = words::number(text, at, (from % 65536) as u32);
+    let at = words::say(text, at, b" on: not looked at");
+    words::end(text, at);
+}
