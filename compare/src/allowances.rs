@@ -1,6 +1,7 @@
 //! Allowances: openings and charges on the original and on ours. The original
 //! doesn't show what remains, so each step is made on a fresh allowance, and
 //! then what ours has left is taken from it, and one more.
+use crate::kinds::Comparison;
 use crate::ours;
 use crate::random::Random;
 use crate::summary::Summary;
@@ -247,18 +248,32 @@ fn exhaustive(summary: &mut Summary) {
     }
 }
 
-pub fn compare(steps: u64, random: &mut Random) -> Summary {
-    let mut summary = Summary::new(&clauses());
-    exhaustive(&mut summary);
-    let mut made = 0;
-    while made < steps {
-        made += compare_sequence(random, &mut summary);
-        let mut left = state(random);
-        for _ in 0..4 {
-            summary.input("random steps, what remains compared after each");
-            left = compare_step(left, step(random, left), &mut summary);
-            made += 1;
+struct Allowances(Summary);
+
+pub fn comparison() -> Box<dyn Comparison> {
+    Box::new(Allowances(Summary::new("allowances", &clauses())))
+}
+
+impl Comparison for Allowances {
+    fn exhaust(&mut self) {
+        exhaustive(&mut self.0);
+    }
+
+    fn draw(&mut self, steps: u64, seed: u64) {
+        let random = &mut Random::new(seed);
+        let mut made = 0;
+        while made < steps {
+            made += compare_sequence(random, &mut self.0);
+            let mut left = state(random);
+            for _ in 0..4 {
+                self.0.input("random steps, what remains compared after each");
+                left = compare_step(left, step(random, left), &mut self.0);
+                made += 1;
+            }
         }
     }
-    summary
+
+    fn finish(self: Box<Self>) -> Summary {
+        self.0
+    }
 }

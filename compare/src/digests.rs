@@ -4,6 +4,7 @@
 //! The original runs in sequences of its own; ours is handed the masks that
 //! the original had before each step. So each step stands for itself, and one
 //! disagreement doesn't bring on others.
+use crate::kinds::Comparison;
 use crate::ours;
 use crate::random::Random;
 use crate::summary::Summary;
@@ -91,7 +92,7 @@ impl Asked {
             Step::AddArray(glyphs) => digest.add_array(glyphs),
             Step::AddRange(a, b) => yes = Some(digest.add_range(*a, *b)),
             Step::MayHave(g) => yes = Some(digest.may_have(*g)),
-            Step::MayIntersect(other) => yes = Some(digest.may_intersect(other.masks)),
+            Step::MayIntersect(other) => yes = Some(digest.may_intersect(&other.masks)),
         }
         (digest.0, yes)
     }
@@ -503,18 +504,32 @@ fn exhaustive(summary: &mut Summary) {
     }
 }
 
-pub fn compare(steps: u64, random: &mut Random) -> Summary {
-    let mut summary = Summary::new(&clauses());
-    exhaustive(&mut summary);
-    let mut source = Source::new(random);
-    for step in 0..steps {
-        if step % 8 == 0 {
-            summary.input("random steps on one mask");
-            source.next_rule().compare(&mut summary);
-        } else {
-            summary.input("random steps on three masks");
-            source.next().compare(&mut summary);
+struct Digests(Summary);
+
+pub fn comparison() -> Box<dyn Comparison> {
+    Box::new(Digests(Summary::new("digests", &clauses())))
+}
+
+impl Comparison for Digests {
+    fn exhaust(&mut self) {
+        exhaustive(&mut self.0);
+    }
+
+    fn draw(&mut self, steps: u64, seed: u64) {
+        let mut random = Random::new(seed);
+        let mut source = Source::new(&mut random);
+        for step in 0..steps {
+            if step % 8 == 0 {
+                self.0.input("random steps on one mask");
+                source.next_rule().compare(&mut self.0);
+            } else {
+                self.0.input("random steps on three masks");
+                source.next().compare(&mut self.0);
+            }
         }
     }
-    summary
+
+    fn finish(self: Box<Self>) -> Summary {
+        self.0
+    }
 }

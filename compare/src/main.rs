@@ -9,100 +9,112 @@ mod allowances;
 mod differences;
 mod digests;
 mod draw;
+mod kinds;
 mod matches;
 mod ours;
 mod paper;
+mod progress;
 mod random;
 mod runs;
 mod store;
 mod summary;
 mod tape;
 mod timing;
+mod trials;
 mod walks;
 
-use random::Random;
+use kinds::{Kind, Length, KINDS};
 use std::process::exit;
-use summary::Summary;
+use std::time::{Duration, Instant};
 
 const USAGE: &str = "\
-compare/run [KIND ...] [--steps N] [--seed S]   compare: digests, allowances, walks, matches, runs (default: all)
-compare/run tape [--steps N] [--seed S]         compare the bench tape, our program as a process
-compare/run tape-timing                         how long 200,000 frames take, both sides
-compare/run store KIND FILE                     write a stored list of the original's answers: small, walks, matches, runs
-compare/run store differences FILE              write our answers to the matchers' expected differences
-compare/run timing [--rounds N]                 how long walks, matches and runs take, the original's and ours
-compare/run differences                         the headings of the expected differences";
+compare/run [KIND ...] [--steps N] [--seed S] [--minutes M]
+                                    compare; without a kind all: digests, allowances, walks, matches, runs, tape, tape-abuse
+                                    --minutes: in rounds of N steps until M minutes are over, each with a seed one higher
+compare/run trials [--steps N] [--seed S]
+                                    wrong answers in place of ours, each of which must be noticed
+compare/run timing [--rounds N]     how long both sides take: digests, walks, matches, runs, the tape
+compare/run store KIND FILE         write a stored list of the original's answers: small, walks, matches, runs
+compare/run store differences FILE  write our answers to the matchers' expected differences
+compare/run differences             the headings of the expected differences";
 
 const STEPS: u64 = 1_000_000;
+const STEPS_OF_A_ROUND: u64 = 100_000;
+const STEPS_OF_A_TRIAL: u64 = 20_000;
 const SEED: u64 = 1;
-const ROUNDS: u32 = 301;
-
-type Kind = (&'static str, fn(u64, &mut Random) -> Summary);
-
-const KINDS: &[Kind] = &[
-    ("digests", digests::compare),
-    ("allowances", allowances::compare),
-    ("walks", walks::compare),
-    ("matches", matches::compare),
-    ("runs", runs::compare),
-];
+const ROUNDS: u64 = 301;
 
 #[no_mangle]
 extern "C" fn main() -> i32 {
+    tape::abuse::ignore_broken_pipes();
     let words: Vec<String> = std::env::args().skip(1).collect();
     let words: Vec<&str> = words.iter().map(String::as_str).collect();
     match words[..] {
         ["store", kind, path] => store::write(kind, path).unwrap_or_else(|| usage()),
         ["differences"] => differences::print(),
-        ["timing"] => timing::run(ROUNDS, &place()),
-        ["timing", "--rounds", rounds] => timing::run(number(Some(&rounds)) as u32, &place()),
-        ["tape-frames", ref rest @ ..] => {
-            let (steps, seed, _) = options(rest);
-            tape::frames(steps, seed)
+        ["timing", ref rest @ ..] => {
+            let rounds = Options::of(rest, &["--rounds"]).rounds.unwrap_or(ROUNDS);
+            timing::run(rounds as u32, &place())
         }
-        ["tape-answers", ref rest @ ..] => {
-            let (steps, seed, _) = options(rest);
-            let summary = tape::answers(steps, seed);
-            summary.print("tape", seed);
-            i32::from(summary.unexplained() > 0)
+        ["trials", ref rest @ ..] => {
+            let Options { steps, seed, .. } = Options::of(rest, &["--steps", "--seed"]);
+            trials::run(steps.unwrap_or(STEPS_OF_A_TRIAL), seed.unwrap_or(SEED))
         }
-        ["tape-mixed", count] => tape::mixed(number(Some(&count)), SEED),
         ["tape-original"] => tape::original(),
         _ => compare(&words),
     }
 }
 
-/// How many steps, the seed and the kinds that are named.
-fn options(words: &[&str]) -> (u64, u64, Vec<&'static Kind>) {
-    let (mut steps, mut seed, mut kinds) = (STEPS, SEED, vec![]);
-    let mut words = words.iter();
-    while let Some(&word) = words.next() {
-        match word {
-            "--steps" => steps = number(words.next()),
-            "--seed" => seed = number(words.next()),
-            _ => match KINDS.iter().find(|kind| kind.0 == word) {
-                Some(kind) => kinds.push(kind),
-                None => usage(),
-            },
-        }
-    }
-    (steps, seed, kinds)
+/// The words of a command.
+#[derive(Default)]
+struct Options {
+    steps: Option<u64>,
+    seed: Option<u64>,
+    minutes: Option<u64>,
+    rounds: Option<u64>,
+    kinds: Vec<&'static Kind>,
 }
 
-/// Answers the status to exit with: 1 if something disagreed that no entry of
-/// docs/DIFFERENCES.md explains.
+impl Options {
+    /// `named` are those that the command knows.
+    fn of(words: &[&str], named: &[&str]) -> Self {
+        let mut options = Self::default();
+        let mut words = words.iter();
+        while let Some(&word) = words.next() {
+            if !named.contains(&word) {
+                usage();
+            }
+            let place = match word {
+                "--steps" => &mut options.steps,
+                "--seed" => &mut options.seed,
+                "--minutes" => &mut options.minutes,
+                "--rounds" => &mut options.rounds,
+                _ => {
+                    options.kinds.extend(KINDS.iter().find(|kind| kind.name == word));
+                    continue;
+                }
+            };
+            *place = Some(number(words.next()));
+        }
+        options
+    }
+}
+
 fn compare(words: &[&str]) -> i32 {
-    let (steps, seed, mut kinds) = options(words);
-    if kinds.is_empty() {
-        kinds.extend(KINDS);
+    let mut named = vec!["--steps", "--seed", "--minutes"];
+    named.extend(KINDS.iter().map(|kind| kind.name));
+    let mut options = Options::of(words, &named);
+    if options.kinds.is_empty() {
+        options.kinds.extend(&KINDS);
     }
-    let mut unexplained = differences::compare();
-    for (name, compare) in kinds {
-        let summary = compare(steps, &mut Random::new(seed));
-        summary.print(name, seed);
-        unexplained += summary.unexplained();
-    }
-    i32::from(unexplained > 0)
+    let minutes = options.minutes.map(|minutes| Duration::from_secs(60 * minutes));
+    let usual = if minutes.is_some() { STEPS_OF_A_ROUND } else { STEPS };
+    let length = Length {
+        steps: options.steps.unwrap_or(usual),
+        seed: options.seed.unwrap_or(SEED),
+        until: minutes.map(|minutes| Instant::now() + minutes),
+    };
+    kinds::compare(&options.kinds, &length)
 }
 
 /// What this runs on, which `compare/run` knows.

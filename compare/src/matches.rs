@@ -3,6 +3,7 @@
 //! texts that the original can't hold, are compared with the paper alone.
 use crate::differences;
 use crate::draw;
+use crate::kinds::Comparison;
 use crate::ours::{self, Answer};
 use crate::paper;
 use crate::paper::matchers::{self, By};
@@ -101,7 +102,7 @@ impl Asker {
     fn new() -> Self {
         let names = [&matchers::NAMES[..], &matchers::FAULTS, &[SEVERAL_FAULTS]].concat();
         Self {
-            summary: Summary::new(&names),
+            summary: Summary::new("matches", &names),
             by: [0; matchers::NAMES.len()],
             numbers: [[[0; 2]; 66]; 3],
             with_original: 0,
@@ -111,7 +112,7 @@ impl Asker {
         }
     }
 
-    fn finish(mut self) -> Summary {
+    fn count_clauses(&mut self) {
         for (name, times) in matchers::NAMES.iter().zip(self.by) {
             self.summary.decided_times(name, times);
         }
@@ -137,7 +138,6 @@ impl Asker {
             "{} input matches with the original's total, {} where it can't hold the counts: their total is compared with 01 alone",
             self.with_total, self.without_total
         ));
-        self.summary
     }
 
     fn ask(&mut self, case: &Case, held: Option<&mut Held>, question: &Question) {
@@ -689,20 +689,33 @@ fn damaged(asker: &mut Asker, random: &mut Random, plenty: &[Glyph]) {
     asker.ask_all("damaged calls of matchers", &case, &asked);
 }
 
-pub fn compare(steps: u64, random: &mut Random) -> Summary {
-    let mut asker = Asker::new();
-    every_text(&mut asker);
-    every_number(&mut asker);
-    let mut made = 0;
-    while made < steps {
-        made += random_text(&mut asker, random);
+pub fn comparison() -> Box<dyn Comparison> {
+    Box::new(Asker::new())
+}
+
+impl Comparison for Asker {
+    fn exhaust(&mut self) {
+        every_text(self);
+        every_number(self);
     }
-    for _ in 0..steps / 150 {
-        long_text(&mut asker, random);
+
+    fn draw(&mut self, steps: u64, seed: u64) {
+        let random = &mut Random::new(seed);
+        let mut made = 0;
+        while made < steps {
+            made += random_text(self, random);
+        }
+        for _ in 0..steps / 150 {
+            long_text(self, random);
+        }
+        let plenty = draw::row(random, 1027);
+        for _ in 0..steps / 50 {
+            damaged(self, random, &plenty);
+        }
     }
-    let plenty = draw::row(random, 1027);
-    for _ in 0..steps / 50 {
-        damaged(&mut asker, random, &plenty);
+
+    fn finish(mut self: Box<Self>) -> Summary {
+        self.count_clauses();
+        self.summary
     }
-    asker.finish()
 }

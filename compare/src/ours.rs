@@ -260,8 +260,8 @@ impl Digest {
     pub fn may_have(&self, g: u32) -> bool {
         unsafe { cb_digest_may_have(&self.0, g) }
     }
-    pub fn may_intersect(&self, other: [u64; 3]) -> bool {
-        unsafe { cb_digest_may_intersect(&self.0, &other) }
+    pub fn may_intersect(&self, other: &[u64; 3]) -> bool {
+        unsafe { cb_digest_may_intersect(&self.0, other) }
     }
 }
 

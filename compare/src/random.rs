@@ -1,6 +1,7 @@
 //! A small seeded generator (SplitMix64): a seed names the same inputs on
 //! every machine.
 
+#[derive(Clone)]
 pub struct Random(u64);
 
 impl Random {

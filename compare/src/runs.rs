@@ -4,10 +4,12 @@
 //!
 //! Of an answer everything is compared: number, spent, d, idx, count, all 64
 //! slots, and every word of both rows.
+use crate::kinds::Comparison;
 use crate::ours::{self, CMatched, CRan};
 use crate::paper::runs::{self, Asked, By, Ran, ROW, ROW_WORDS};
 use crate::random::Random;
 use crate::summary::Summary;
+use crate::trials::Trial;
 use original::glyphs::Glyph;
 use original::hook::{Mode, PutBack};
 use original::runs::{Book, Run};
@@ -200,8 +202,9 @@ pub fn both(case: &Case, mode: Mode) -> (String, String) {
 
 // ---- asking
 
-struct Asker {
-    summary: Summary,
+pub struct Asker {
+    pub summary: Summary,
+    trial: Option<&'static Trial<Case, After>>,
     by: Vec<u64>,
     faults: [u64; runs::FAULTS.len()],
     with_original: u64,
@@ -216,10 +219,11 @@ struct Asker {
 }
 
 impl Asker {
-    fn new() -> Self {
+    pub fn new(trial: Option<&'static Trial<Case, After>>) -> Self {
         let names = [runs::NAMES, &runs::FAULTS].concat();
         Self {
-            summary: Summary::new(&names),
+            trial,
+            summary: Summary::new("runs", &names),
             by: vec![0; runs::NAMES.len()],
             faults: [0; runs::FAULTS.len()],
             with_original: 0,
@@ -233,7 +237,7 @@ impl Asker {
         }
     }
 
-    fn finish(mut self) -> Summary {
+    fn count_clauses(&mut self) {
         for (name, &times) in runs::NAMES.iter().zip(&self.by) {
             self.summary.decided_times(name, times);
         }
@@ -253,13 +257,20 @@ impl Asker {
         ] {
             self.summary.note(note);
         }
-        self.summary
+    }
+
+    /// In a trial a wrong answer stands in for ours.
+    fn ours(&self, case: &Case) -> After {
+        match self.trial {
+            None => case.ours(),
+            Some(trial) => trial.answer(case, Case::ours),
+        }
     }
 
     fn ask(&mut self, kind: &'static str, case: &Case, book: Option<&Book>) {
         self.summary.input(kind);
         let paper = case.paper(|by| self.by[by as usize] += 1);
-        let ours = case.ours();
+        let ours = self.ours(case);
         let reads = ours::book_reads(&case.book);
         self.summary.compare_with_paper(&runs::reads(&case.book), &reads, || shown(case));
         let expected = After::of_paper(case, &paper);
@@ -697,14 +708,26 @@ fn limit_book(random: &mut Random) -> Vec<u16> {
     }
 }
 
-pub fn compare(steps: u64, random: &mut Random) -> Summary {
-    let mut asker = Asker::new();
-    let mut made = 0;
-    while made < steps {
-        made += random_runs(&mut asker, random);
+pub fn comparison() -> Box<dyn Comparison> {
+    Box::new(Asker::new(None))
+}
+
+impl Comparison for Asker {
+    fn exhaust(&mut self) {}
+
+    fn draw(&mut self, steps: u64, seed: u64) {
+        let random = &mut Random::new(seed);
+        let mut made = 0;
+        while made < steps {
+            made += random_runs(self, random);
+        }
+        for _ in 0..steps / 20 {
+            damaged(self, random);
+        }
     }
-    for _ in 0..steps / 20 {
-        damaged(&mut asker, random);
+
+    fn finish(mut self: Box<Self>) -> Summary {
+        self.count_clauses();
+        self.summary
     }
-    asker.finish()
 }

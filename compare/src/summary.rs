@@ -1,34 +1,68 @@
 //! What a comparison found: how many inputs of which kind, how often each
 //! clause decided, and what disagreed.
 use crate::differences::Difference;
+use crate::progress::{self, grouped, Progress};
 
 /// How many disagreements are shown in full.
 const SHOWN: u64 = 10;
 
+/// The two that our answers are held against.
+#[derive(Clone, Copy)]
+pub enum Side {
+    Original,
+    /// The second reading of the paper.
+    Paper,
+}
+
+const SIDES: [&str; 2] = ["original", "01      "];
+
 pub struct Summary {
+    name: &'static str,
     inputs: Vec<(&'static str, u64)>,
+    total: u64,
     clauses: Vec<(&'static str, u64)>,
     expected: Vec<(&'static str, u64)>,
     notes: Vec<String>,
-    unexplained: u64,
+    /// How many answers were held against either side.
+    held: [u64; 2],
+    disagreed: [u64; 2],
+    /// How many inputs there were when either side first disagreed.
+    first: [Option<u64>; 2],
+    /// In a trial a disagreement is what is hoped for.
+    quiet: bool,
+    progress: Progress,
 }
 
 impl Summary {
     /// The clauses are named beforehand, so that one that never decides shows.
-    pub fn new(clauses: &[&'static str]) -> Self {
+    pub fn new(name: &'static str, clauses: &[&'static str]) -> Self {
         Self {
+            name,
             inputs: vec![],
+            total: 0,
             clauses: clauses.iter().map(|&name| (name, 0)).collect(),
             expected: vec![],
             notes: vec![],
-            unexplained: 0,
+            held: [0; 2],
+            disagreed: [0; 2],
+            first: [None; 2],
+            quiet: false,
+            progress: Progress::new(),
         }
+    }
+
+    pub fn be_quiet(&mut self) {
+        self.quiet = true;
     }
 
     pub fn input(&mut self, kind: &'static str) {
         match self.inputs.iter_mut().find(|entry| entry.0 == kind) {
             Some(entry) => entry.1 += 1,
             None => self.inputs.push((kind, 1)),
+        }
+        self.total += 1;
+        if !self.quiet {
+            self.progress.tick(self.name, self.total, self.unexplained());
         }
     }
 
@@ -54,8 +88,9 @@ impl Summary {
         ours: &T,
         question: impl FnOnce() -> String,
     ) {
+        self.held[Side::Paper as usize] += 1;
         if paper != ours {
-            self.disagree("01      ", paper, ours, question);
+            self.disagree(Side::Paper, paper, ours, question);
         }
     }
 
@@ -68,6 +103,7 @@ impl Summary {
         explained: impl FnOnce() -> Option<&'static Difference>,
         question: impl FnOnce() -> String,
     ) {
+        self.held[Side::Original as usize] += 1;
         if original == ours {
             return;
         }
@@ -79,41 +115,86 @@ impl Summary {
             }
             return;
         }
-        self.disagree("original", original, ours, question);
+        self.disagree(Side::Original, original, ours, question);
     }
 
     fn disagree<T: std::fmt::Debug>(
         &mut self,
-        name: &str,
+        side: Side,
         other: &T,
         ours: &T,
         question: impl FnOnce() -> String,
     ) {
-        self.unexplained += 1;
-        if self.unexplained <= SHOWN {
+        self.disagreed[side as usize] += 1;
+        self.first[side as usize].get_or_insert(self.total);
+        if !self.quiet && self.unexplained() <= SHOWN {
+            let name = SIDES[side as usize];
+            progress::clear();
             println!("DISAGREE {}\n  {name} {other:X?}\n  ours     {ours:X?}", question());
         }
     }
 
     pub fn unexplained(&self) -> u64 {
-        self.unexplained
+        self.disagreed.iter().sum()
     }
 
-    pub fn print(&self, name: &str, seed: u64) {
-        let total: u64 = self.inputs.iter().map(|entry| entry.1).sum();
-        println!("{name}: {total} inputs, seed {seed}, {} disagreed", self.unexplained);
+    /// After how many inputs a side first disagreed.
+    pub fn first(&self, side: Side) -> Option<u64> {
+        self.first[side as usize]
+    }
+
+    /// How many clauses never decided.
+    fn never(&self) -> usize {
+        self.clauses.iter().filter(|entry| entry.1 == 0).count()
+    }
+
+    pub fn print(&self, seeds: &str) {
+        let (name, total) = (self.name, grouped(self.total));
+        println!("{name}: {total} inputs, {seeds}, {} disagreed", self.unexplained());
         for (kind, count) in &self.inputs {
-            println!("  {count:>9}  {kind}");
+            println!("  {:>12}  {kind}", grouped(*count));
         }
         for (heading, count) in &self.expected {
-            println!("  {count:>9}  differ as docs/DIFFERENCES.md says: {heading}");
+            println!("  {:>12}  differ as docs/DIFFERENCES.md says: {heading}", grouped(*count));
         }
         for note in &self.notes {
             println!("  {note}");
         }
         println!("  decided by");
         for (clause, count) in &self.clauses {
-            println!("  {count:>9}  {clause}{}", if *count == 0 { "   NEVER" } else { "" });
+            let never = if *count == 0 { "   NEVER" } else { "" };
+            println!("  {:>12}  {clause}{never}", grouped(*count));
         }
+    }
+
+    /// The names of what `row` prints.
+    pub fn print_head() {
+        println!(
+            "  {:<11} {:>13} {:>13} {:>13} {:>10} {:>8} {:>6} {:>10}",
+            "kind",
+            "inputs",
+            "with original",
+            "with 01",
+            "as listed",
+            "clauses",
+            "never",
+            "disagreed"
+        );
+    }
+
+    /// A line of the table of all kinds.
+    pub fn print_row(&self) {
+        let expected: u64 = self.expected.iter().map(|entry| entry.1).sum();
+        println!(
+            "  {:<11} {:>13} {:>13} {:>13} {:>10} {:>8} {:>6} {:>10}",
+            self.name,
+            grouped(self.total),
+            grouped(self.held[Side::Original as usize]),
+            grouped(self.held[Side::Paper as usize]),
+            grouped(expected),
+            self.clauses.len(),
+            self.never(),
+            grouped(self.unexplained()),
+        );
     }
 }

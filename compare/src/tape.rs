@@ -1,22 +1,29 @@
 //! The bench tape: our program as a process of its own, the original behind the
-//! same tape, and the second reading of the paper. `compare/run tape` lets
-//! `frames` write to our program and `answers` read from it; both draw the same
-//! lines from the seed.
+//! same tape, and the second reading of the paper. One thread draws the lines and
+//! writes them to our program; another draws the same lines and compares what
+//! our program answers.
 //!
 //! That a line is a frame is no matter of the original: `frame` below reads the
 //! paper's sentence.
+pub mod abuse;
+pub mod lines;
+pub mod program;
+
 use crate::differences;
-use crate::draw;
-use crate::matches::{self, beside, wrapped, Case, Question};
+use crate::kinds::Comparison;
+use crate::matches::{beside, wrapped, Case, Question};
 use crate::ours::Answer;
 use crate::paper::matchers::{By, NAMES};
-use crate::random::Random;
+use crate::progress::grouped;
 use crate::summary::Summary;
+use crate::trials::Trial;
+use lines::{Line, Lines, CORNER, FRAME, MADE};
 use original::glyphs::Glyph;
 use original::matches::{with_text, Text};
 use original::terms::{Call, Matched, Setup, Testing};
 use std::fmt::Write as _;
 use std::io::{BufRead, BufReader, BufWriter, Read, Write};
+use std::process::{ChildStdin, Stdio};
 
 // ---- "The bench tape"
 
@@ -132,242 +139,32 @@ fn written(case: &Case, question: &Question) -> Vec<u8> {
     line.into_bytes()
 }
 
-// ---- the lines
-
-/// How a line came about, by its place in `MADE`.
-const MADE: [&str; 11] = [
-    "lines: frames",
-    "lines: damaged, a digit or more cut",
-    "lines: damaged, a digit or more added",
-    "lines: damaged, a digit changed",
-    "lines: damaged, other settings",
-    "lines: damaged, a foreign byte",
-    "lines: damaged, the case of digits",
-    "lines: damaged, a count changed",
-    "lines: damaged, another opening",
-    "lines: damaged, two halves of frames",
-    "lines: the longest frame and its like",
-];
-const CORNER: usize = 10;
-
-/// Draws the lines: the corners, then frames and damaged ones by turns.
-struct Lines {
-    random: Random,
-    corners: std::vec::IntoIter<Vec<u8>>,
-    left: u64,
-    last: Vec<u8>,
-}
-
-impl Lines {
-    fn new(steps: u64, seed: u64) -> Self {
-        let mut random = Random::new(seed);
-        let corners = corners(&mut random).into_iter();
-        Self { random, corners, left: 2 * steps, last: vec![] }
-    }
-}
-
-impl Iterator for Lines {
-    type Item = (usize, Vec<u8>);
-
-    fn next(&mut self) -> Option<(usize, Vec<u8>)> {
-        if let Some(line) = self.corners.next() {
-            return Some((CORNER, line));
-        }
-        self.left = self.left.checked_sub(1)?;
-        if self.left % 2 == 1 {
-            self.last = draw_frame(&mut self.random);
-            return Some((0, self.last.clone()));
-        }
-        let other = std::mem::take(&mut self.last);
-        Some(damage(&mut self.random, other))
-    }
-}
-
-fn draw_frame(random: &mut Random) -> Vec<u8> {
-    let counts = match random.below(400) {
-        0 => [64, 64],
-        1 => [random.near(&[63], 1) as usize, random.below(5) as usize],
-        2 => [random.below(5) as usize, random.near(&[63], 1) as usize],
-        3..=12 => [random.below(65) as usize, random.below(65) as usize],
-        _ => [random.below(4) as usize, random.below(6) as usize],
+/// What the second reading says to a line.
+fn reading(line: &[u8], bytes: &mut Vec<u8>) -> String {
+    let Some((case, question)) = frame(line, bytes).map(Frame::asked) else {
+        return NO_FRAME.to_string();
     };
-    let mut case = match random.one_in(3) {
-        true => matches::wild_case(random, counts),
-        false => matches::calm_case(random, counts),
-    };
-    // The whole of both rows counts, and there are no mark sets.
-    let sets = vec![];
-    case = Case::new(Setup { sets, ..case.setup }, case.done, case.coming, case.idx);
-    if random.one_in(40) {
-        case.idx = random.pick(&[case.len, case.len + 1, 64, 256, 0xFFFF]);
-    }
-    let mut question = matches::draw_question(random, &case, Call::Input);
-    question.values.truncate(64);
-    if random.one_in(60) {
-        question.values.resize(random.pick(&[62, 63, 64, 64]), 7);
-    }
-    let mut line = written(&case, &question);
-    if random.one_in(8) {
-        line.make_ascii_lowercase();
-    }
-    line
+    line_of(&Answer::of(Call::Input, &question.paper(&case, |_| ())))
 }
 
-const DIGITS: &[u8] = b"0123456789ABCDEFabcdef";
-/// Neighbours of the digits, what ends other lines, and bytes above 127.
-const FOREIGN: &[u8] = b"/:@G`g \t\r\0xX-+.,;_\x0B\x0C\x1A\x7F\x80\xC0\xFF";
-/// Where the settings, the number of values and the cursor stand.
-const SETTINGS: usize = 8;
-const VALUES: usize = 30;
-
-fn damage(random: &mut Random, mut line: Vec<u8>) -> (usize, Vec<u8>) {
-    let at = |random: &mut Random, line: &[u8]| random.below(line.len() as u64) as usize;
-    let how = 1 + random.below(9) as usize;
-    match how {
-        1 => {
-            let from = match random.one_in(2) {
-                true => line.len() - 1,
-                false => at(random, &line),
-            };
-            let many = random.pick(&[1, 1, 2, 2, 8, 32, usize::MAX]).min(line.len() - from);
-            line.drain(from..from + many);
-        }
-        2 => {
-            let from = if random.one_in(2) { line.len() } else { at(random, &line) };
-            let many = random.pick(&[1, 1, 2, 2, 8, 32, 4648]);
-            let more: Vec<u8> = (0..many).map(|_| random.pick(DIGITS)).collect();
-            line.splice(from..from, more);
-        }
-        3 => {
-            let place = at(random, &line);
-            line[place] = random.pick(DIGITS);
-        }
-        4 => {
-            let settings = format!("{:02X}", random.below(256));
-            line[SETTINGS..SETTINGS + 2].copy_from_slice(settings.as_bytes());
-        }
-        5 => {
-            let (place, byte) = (at(random, &line), random.pick(FOREIGN));
-            match random.below(4) {
-                0 => line.push(byte),
-                1 => line.insert(0, byte),
-                2 => line.insert(place, byte),
-                _ => line[place] = byte,
-            }
-        }
-        6 => {
-            for byte in &mut line {
-                match random.one_in(2) {
-                    true => byte.make_ascii_lowercase(),
-                    false => byte.make_ascii_uppercase(),
-                }
-            }
-        }
-        7 => {
-            let values =
-                usize::from_str_radix(&String::from_utf8_lossy(&line[VALUES..VALUES + 2]), 16);
-            let counts = VALUES + 2 + 8 * values.unwrap_or(0);
-            let place = random.pick(&[VALUES, counts, counts + 4]);
-            let wide = if place == VALUES { 2 } else { 4 };
-            let number = random.pick(&[0, 1, 2, 63, 64, 65, 128, 255]);
-            let number = format!("{number:04X}");
-            if let Some(place) = line.get_mut(place..place + wide) {
-                place.copy_from_slice(&number.as_bytes()[4 - wide..]);
-            }
-        }
-        8 => {
-            let opening: &[u8] = random.pick(&[
-                b"47504F53",
-                b"47535542",
-                b"67737562",
-                b"47504F52",
-                b"42555347",
-                b"",
-                b"4753554200",
-                b"47505542",
-            ]);
-            line.splice(..8.min(line.len()), opening.iter().copied());
-        }
-        _ => {
-            let other = draw_frame(random);
-            let from = at(random, &other);
-            line.truncate(at(random, &line));
-            line.extend(&other[from..]);
-        }
+/// What the second reading says to a whole tape.
+pub fn second_reading(tape: &[u8]) -> Vec<u8> {
+    let mut lines: Vec<&[u8]> = tape.split(|&byte| byte == b'\n').collect();
+    // Behind the last 0A there is a line only if it has a byte.
+    if lines.last().is_some_and(|line| line.is_empty()) {
+        lines.pop();
     }
-    (how, line)
+    let (mut answers, mut bytes) = (vec![], vec![]);
+    for line in lines {
+        answers.extend(reading(line, &mut bytes).into_bytes());
+        answers.push(b'\n');
+    }
+    answers
 }
 
-/// The longest frame there is, with a digit less, one more and two more, and
-/// others of its length; then ways to be no frame that chance seldom meets.
-fn corners(random: &mut Random) -> Vec<Vec<u8>> {
-    let longest = |random: &mut Random, gpos| {
-        let setup = Setup { gpos, mask: 1, props: 8, ..Setup::default() };
-        let (done, coming) = (draw::row(random, 64), vec![matches::SOUGHT; 64]);
-        let values = vec![7; 64];
-        let question = Question { call: Call::Input, testing: Testing::Equal, spare: 2, values };
-        written(&Case::new(setup, done, coming, 0), &question)
-    };
-    let mut lines = vec![];
-    for gpos in [false, true] {
-        let line = longest(random, gpos);
-        assert_eq!(line.len(), 4648, "01's number of digits");
-        for digits in [4646, 4647, 4648, 4649, 4650, 4664, 9296] {
-            let mut other = line.clone();
-            other.resize(digits, b'0');
-            lines.push(other);
-        }
-        lines.push(line.to_ascii_lowercase());
-        // 63 values, and the same with a record less or more than is said.
-        let mut fewer = line.clone();
-        fewer[VALUES..VALUES + 2].copy_from_slice(b"3F");
-        fewer.drain(VALUES + 2..VALUES + 10);
-        lines.push(fewer.clone());
-        lines.push(fewer[..fewer.len() - 32].to_vec());
-        lines.push([&fewer[..], &[b'0'; 32]].concat());
-        // 65 of each.
-        let mut more = line.clone();
-        more[VALUES..VALUES + 2].copy_from_slice(b"41");
-        more.splice(VALUES + 2..VALUES + 2, *b"00000007");
-        lines.push(more);
-        for counts in [*b"00410040", *b"00400041"] {
-            let mut more = line.clone();
-            let at = VALUES + 2 + 8 * 64;
-            more[at..at + 8].copy_from_slice(&counts);
-            more.extend([b'0'; 32]);
-            lines.push(more);
-        }
-        for wide in [100_000, 3_000_000] {
-            lines.push(vec![b'0'; wide]);
-            let mut long = line.clone();
-            long.resize(wide, b'0');
-            lines.push(long);
-        }
-        lines.push(line);
-    }
-    for short in ["", "0", "00", "FF", " ", "\r", "\0", "47535542", "4753554200"] {
-        lines.push(short.into());
-    }
-    lines
-}
+// ---- the comparison
 
-/// Writes the lines; the last lacks its 0A.
-pub fn frames(steps: u64, seed: u64) -> i32 {
-    let mut out = BufWriter::with_capacity(1 << 16, std::io::stdout().lock());
-    let mut first = true;
-    for (_, line) in Lines::new(steps, seed) {
-        if !std::mem::take(&mut first) {
-            out.write_all(b"\n").expect("our program reads on");
-        }
-        out.write_all(&line).expect("our program reads on");
-    }
-    out.flush().expect("our program reads on");
-    0
-}
-
-// ---- the answers
-
-const ENDS: [&str; 7] = [
+const ENDS: [&str; 8] = [
     "answer 00, a match",
     "answer 02, the cursor",
     "answer 03, 64 values",
@@ -375,34 +172,129 @@ const ENDS: [&str; 7] = [
     "answer 05, the ligature rule",
     "answer FF to a frame that was damaged",
     "a frame though it was damaged",
+    "answer FF, of the longest frame and its like",
 ];
 
-/// Reads our program's answers and compares each.
-pub fn answers(steps: u64, seed: u64) -> Summary {
-    let names = [&MADE[..], &ENDS, &["answer FF, of the longest frame and its like"]].concat();
-    let mut summary = Summary::new(&names);
-    let mut by = [0u64; NAMES.len()];
-    let (mut with_original, mut without) = (0u64, 0u64);
-    let mut input = BufReader::with_capacity(1 << 16, std::io::stdin().lock());
-    let (mut ours, mut bytes) = (vec![], vec![]);
-    for (made, line) in Lines::new(steps, seed) {
-        ours.clear();
-        input.read_until(b'\n', &mut ours).expect("our program's answers are read");
-        let ours = String::from_utf8_lossy(&ours).into_owned();
-        summary.input(if made == 0 { "frames" } else { "damaged lines and corners" });
-        summary.decided(MADE[made]);
-        let shown = || String::from_utf8_lossy(&line[..line.len().min(400)]).into_owned();
-        let Some((case, question)) = frame(&line, &mut bytes).map(Frame::asked) else {
-            summary.decided(if made == CORNER { names[names.len() - 1] } else { ENDS[5] });
-            summary.compare_with_paper(&format!("{NO_FRAME}\n"), &ours, shown);
-            continue;
+/// Which lines are corners doesn't depend on the seed of a run.
+const CORNERS_SEED: u64 = 1;
+
+pub struct Asker {
+    pub summary: Summary,
+    trial: Option<&'static Trial<Line, String>>,
+    by: [u64; NAMES.len()],
+    with_original: u64,
+    without_original: u64,
+    bytes: Vec<u8>,
+}
+
+pub fn comparison() -> Box<dyn Comparison> {
+    Box::new(Asker::new(None))
+}
+
+impl Comparison for Asker {
+    fn exhaust(&mut self) {
+        self.ask_all(lines::corners(CORNERS_SEED).into_iter());
+    }
+
+    fn draw(&mut self, steps: u64, seed: u64) {
+        self.ask_all(Lines::new(steps, seed));
+    }
+
+    fn finish(mut self: Box<Self>) -> Summary {
+        self.count_clauses();
+        self.summary
+    }
+}
+
+impl Asker {
+    pub fn new(trial: Option<&'static Trial<Line, String>>) -> Self {
+        let names = [&MADE[..], &ENDS].concat();
+        Self {
+            summary: Summary::new("tape", &names),
+            trial,
+            by: [0; NAMES.len()],
+            with_original: 0,
+            without_original: 0,
+            bytes: vec![],
+        }
+    }
+
+    fn count_clauses(&mut self) {
+        self.summary.note(format!(
+            "{} with three answers: the original's, our program's and that of 01",
+            self.with_original
+        ));
+        self.summary.note(format!(
+            "{} matches of texts that the original can't hold: compared with 01 alone",
+            self.without_original
+        ));
+        // Of the matchers' clauses those that a tape can meet: it asks for input alone.
+        for (name, times) in NAMES.iter().zip(self.by).filter(|entry| entry.1 > 0) {
+            self.summary.note(format!("{:>12}  {name}", grouped(times)));
+        }
+    }
+
+    /// Puts the lines to one process, and compares its answers.
+    fn ask_all(&mut self, lines: impl Iterator<Item = Line> + Clone + Send + 'static) {
+        let mut command = program::tape();
+        let mut child = command
+            .stdin(Stdio::piped())
+            .stdout(Stdio::piped())
+            .spawn()
+            .expect("our tape program is started");
+        let input = child.stdin.take().expect("a pipe");
+        let mut output = BufReader::with_capacity(1 << 16, child.stdout.take().expect("a pipe"));
+        let (trial, written) = (self.trial, lines.clone());
+        let writer = std::thread::spawn(move || write_lines(written, trial, input));
+        for line in lines {
+            if !self.compare_next(&mut output, &line) {
+                break;
+            }
+        }
+        let mut more = vec![];
+        output.read_to_end(&mut more).expect("our program's answers are read");
+        writer.join().expect("the lines are written");
+        let status = child.wait().expect("our program ends").code();
+        let after = (0, Some(0));
+        self.summary.compare_with_paper(&after, &(more.len(), status), || {
+            "bytes after the last answer, and our program's status".to_string()
+        });
+    }
+
+    /// Compares the next answer; nothing more can be compared if there is none.
+    fn compare_next(&mut self, output: &mut impl BufRead, line: &Line) -> bool {
+        if line.last && line.bytes.is_empty() {
+            return true; // behind the last 0A there is no line
+        }
+        let mut ours = vec![];
+        output.read_until(b'\n', &mut ours).expect("our program's answers are read");
+        let is_there = !ours.is_empty();
+        let mut ours = String::from_utf8_lossy(&ours).into_owned();
+        if let Some(trial) = self.trial {
+            (trial.after)(line, &mut ours);
+        }
+        self.compare_one(line, &ours);
+        is_there
+    }
+
+    fn compare_one(&mut self, line: &Line, ours: &String) {
+        let Line { made, bytes, .. } = line;
+        let summary = &mut self.summary;
+        summary.input(if *made == FRAME { "frames" } else { "damaged lines and corners" });
+        summary.decided(MADE[*made]);
+        let shown = || String::from_utf8_lossy(&bytes[..bytes.len().min(400)]).into_owned();
+        let Some((case, question)) = frame(bytes, &mut self.bytes).map(Frame::asked) else {
+            summary.decided(if *made == CORNER { ENDS[7] } else { ENDS[5] });
+            summary.compare_with_paper(&format!("{NO_FRAME}\n"), ours, shown);
+            return;
         };
-        if made != 0 && made != CORNER {
+        if *made != FRAME && *made != CORNER {
             summary.decided(ENDS[6]);
         }
-        let paper = question.paper(&case, |why: By| by[why as usize] += 1);
+        let paper = question.paper(&case, |why: By| self.by[why as usize] += 1);
         let expected = Answer::of(Call::Input, &paper);
-        summary.compare_with_paper(&(line_of(&expected) + "\n"), &ours, shown);
+        let right = line_of(&expected) + "\n";
+        summary.compare_with_paper(&right, ours, shown);
         summary.decided(match &paper {
             Err(2) => ENDS[1],
             Err(_) => ENDS[2],
@@ -411,18 +303,21 @@ pub fn answers(steps: u64, seed: u64) -> Summary {
             Ok(_) => ENDS[0],
         });
         if paper.is_err() {
-            continue;
+            return;
         }
         let ask = |case: &Case| {
             let told = with_text(case.text(), |held| question.original(held))?;
             Some(beside(Call::Input, told, expected))
         };
         let Some(told) = ask(&case) else {
-            without += 1;
-            continue;
+            self.without_original += 1;
+            return;
         };
-        with_original += 1;
+        self.with_original += 1;
         let explained = || {
+            if *ours != right {
+                return None;
+            }
             if wrapped(told, expected) {
                 return Some(&differences::TOTALS);
             }
@@ -430,40 +325,32 @@ pub fn answers(steps: u64, seed: u64) -> Summary {
             let explains = anew == expected || wrapped(anew, expected);
             explains.then_some(&differences::SUBSTITUTED_IGNORABLE)
         };
-        summary.compare(&(line_of(&told) + "\n"), &ours, explained, shown);
+        summary.compare(&(line_of(&told) + "\n"), ours, explained, shown);
     }
-    let mut more = vec![];
-    input.read_to_end(&mut more).expect("our program's answers are read");
-    summary.compare_with_paper(&0, &more.len(), || "bytes after the last answer".to_string());
-    summary.note(format!(
-        "{with_original} with three answers: the original's, our program's and that of 01"
-    ));
-    summary.note(format!(
-        "{without} matches of texts that the original can't hold: compared with 01 alone"
-    ));
-    for (name, times) in NAMES.iter().zip(by).filter(|entry| entry.1 > 0) {
-        summary.note(format!("{times:>9}  {name}"));
+}
+
+/// That our program is gone shows in its answers; here writing only stops.
+fn write_lines(
+    lines: impl Iterator<Item = Line>,
+    trial: Option<&'static Trial<Line, String>>,
+    input: ChildStdin,
+) {
+    let mut out = BufWriter::with_capacity(1 << 16, input);
+    for mut line in lines {
+        if let Some(trial) = trial {
+            (trial.before)(&mut line);
+        }
+        if !line.last {
+            line.bytes.push(b'\n');
+        }
+        if out.write_all(&line.bytes).is_err() {
+            return;
+        }
     }
-    summary
+    let _ = out.flush();
 }
 
 // ---- for timing
-
-/// Mixed frames: as drawn above, now and then one that is damaged.
-pub fn mixed(count: u64, seed: u64) -> i32 {
-    let mut random = Random::new(seed);
-    let mut out = BufWriter::with_capacity(1 << 16, std::io::stdout().lock());
-    for _ in 0..count {
-        let mut line = draw_frame(&mut random);
-        if random.one_in(20) {
-            line = damage(&mut random, line).1;
-        }
-        line.push(b'\n');
-        out.write_all(&line).expect("the frames are written");
-    }
-    out.flush().expect("the frames are written");
-    0
-}
 
 /// What the original answers; `--` where it can't hold the text.
 fn answered(frame: &Frame) -> String {

@@ -1,5 +1,6 @@
-//! How long both walks take a glyph and the three matchers a match, the
-//! original's and ours, in one program.
+//! How long a digest's questions take, both walks a glyph, the three matchers a
+//! match and a run, the original's and ours, in one program; then the tape, of
+//! which each side is a process.
 //!
 //! A walk goes over 1,024 glyphs, one of which it starts from. A round lets one
 //! side walk some times and then the other, and the rounds change which is
@@ -10,19 +11,28 @@ use crate::matches::Case;
 use crate::ours::{self, CMatched, Sign};
 use crate::random::Random;
 use crate::runs;
+use crate::tape::{lines, program};
+use original::digests::{masks, SetDigest};
 use original::glyphs::Glyph;
 use original::hook::Mode;
 use original::matches::{with_text, Held};
 use original::runs::{Again, Book, Run};
 use original::terms::{Call, Role, Setup, Test};
 use original::walks::{with_row, Row};
+use std::fs::File;
 use std::hint::black_box;
+use std::process::{Command, Stdio};
 use std::time::{Duration, Instant};
 
 const GLYPHS: usize = 1024;
 /// How long one side walks in a round.
 const ROUND: Duration = Duration::from_micros(200);
 const SOUGHT: u32 = 7;
+/// What is drawn for timing is always the same.
+const SEED: u64 = 1;
+const FRAMES: u64 = 200_000;
+/// A turn of the tape takes a part of a second.
+const TAPE_TURNS: u32 = 11;
 
 /// All glyphs are passed over, but for the last that a walk meets in the
 /// mixture, which stops it.
@@ -117,27 +127,32 @@ fn line(
             theirs.take(walks, glyphs, &mut original);
         }
     }
+    print_line(name, theirs, our);
+}
+
+fn print_line(name: &str, theirs: Times, our: Times) {
     let [best, median] = theirs.best_and_median();
     let [our_best, our_median] = our.best_and_median();
     let ratios = [our_best / best, our_median / median];
-    print!("  {name:<46} {best:>7.2} {median:>7.2}  {our_best:>7.2} {our_median:>7.2}");
+    print!("  {name:<46} {best:>8.2} {median:>8.2}  {our_best:>8.2} {our_median:>8.2}");
     println!("  {:>6.2} {:>6.2}", ratios[0], ratios[1]);
 }
 
 /// `place` says what the program runs on.
 pub fn run(rounds: u32, place: &str) -> i32 {
     println!("timing: {place}");
-    println!(
-        "nanoseconds a glyph over {GLYPHS} glyphs, rows warm; best and median of {rounds} rounds,"
-    );
-    println!(
-        "the two sides by turns; the ratio is ours to the original's, below 1 where ours is faster"
-    );
-    println!("  {:46} {:^15}  {:^15}  {:^13}", "", "original", "ours", "ratio");
+    println!("best and median of {rounds} rounds, the two sides by turns, inputs drawn from seed {SEED};");
+    println!("the ratio is ours to the original's, below 1 where ours is faster");
+    println!("  {:46} {:^17}  {:^17}  {:^13}", "", "original", "ours", "ratio");
     let two = |width: usize| format!("{:>width$} {:>width$}", "best", "median");
-    println!("  {:46} {}  {}  {}", "", two(7), two(7), two(6));
+    println!("  {:46} {}  {}  {}", "", two(8), two(8), two(6));
+    println!("nanoseconds a question to a digest, of {GLYPHS} by turns");
+    for glyphs in [8, 200] {
+        digests(rounds, glyphs);
+    }
+    println!("nanoseconds a glyph over {GLYPHS} glyphs, rows warm");
     for text in texts() {
-        let random = &mut Random::new(1);
+        let random = &mut Random::new(SEED);
         let glyphs: Vec<Glyph> = (0..GLYPHS).map(|place| (text.glyph)(random, place)).collect();
         let words = draw::words(&glyphs);
         let setup = Setup { mask: 1, props: text.props, sets: text.sets, ..Setup::default() };
@@ -155,7 +170,90 @@ pub fn run(rounds: u32, place: &str) -> i32 {
             nested_runs(rounds, spread, nested);
         }
     }
+    tape();
     0
+}
+
+/// Both questions to digests of so many glyphs: of few a third of the masks'
+/// bits are set, of many nearly all.
+fn digests(rounds: u32, glyphs: u64) {
+    let random = &mut Random::new(SEED);
+    let mut drawn = |count: u64| {
+        let mut digest = SetDigest::new();
+        (0..count).for_each(|_| digest.add(random.below(65_536) as u32));
+        let ours = ours::Digest(masks(&digest));
+        (digest, ours)
+    };
+    let (digest, our) = drawn(glyphs);
+    let (others, our_others): (Vec<SetDigest>, Vec<ours::Digest>) =
+        (0..GLYPHS).map(|_| drawn(3)).unzip();
+    let asked: Vec<u32> = (0..GLYPHS).map(|_| random.below(65_536) as u32).collect();
+    let have = |&g: &u32| black_box(&digest).may_have(g);
+    let our_have = |&g: &u32| black_box(&our).may_have(g);
+    let meets = |other: &SetDigest| black_box(&digest).may_intersect(other);
+    let our_meets = |other: &ours::Digest| black_box(&our).may_intersect(&other.0);
+    let yes = [count(&asked, have), count(&others, meets)];
+    assert_eq!(yes, [count(&asked, our_have), count(&our_others, our_meets)], "both say the same");
+    line(
+        &format!("may_have, {glyphs} glyphs added, {} times yes", yes[0]),
+        rounds,
+        GLYPHS,
+        || {
+            black_box(count(&asked, have));
+        },
+        || {
+            black_box(count(&asked, our_have));
+        },
+    );
+    line(
+        &format!("may_intersect, 3 with {glyphs} added, {} times yes", yes[1]),
+        rounds,
+        GLYPHS,
+        || {
+            black_box(count(&others, meets));
+        },
+        || {
+            black_box(count(&our_others, our_meets));
+        },
+    );
+}
+
+fn count<T>(of: &[T], is_yes: impl Fn(&T) -> bool) -> usize {
+    of.iter().filter(|&one| is_yes(one)).count()
+}
+
+/// Our program and the original behind the same tape, each a process, read the
+/// same file and write to nowhere.
+fn tape() {
+    let folder = std::env::var("COMPARE_FOLDER");
+    let (Ok(folder), Some(mut original)) = (folder, program::original()) else {
+        println!("the tape: not timed, since compare/run didn't say how it is started");
+        return;
+    };
+    let file = format!("{folder}/mixed.txt");
+    std::fs::write(&file, lines::mixed(FRAMES, SEED)).expect("the frames are written");
+    let (mut theirs, mut our) = (Times(vec![]), Times(vec![]));
+    for turn in 0..TAPE_TURNS {
+        if turn % 2 == 0 {
+            theirs.0.push(process(&mut original, &file));
+            our.0.push(process(&mut program::tape(), &file));
+        } else {
+            our.0.push(process(&mut program::tape(), &file));
+            theirs.0.push(process(&mut original, &file));
+        }
+    }
+    println!("milliseconds for a tape of {FRAMES} mixed frames, a process from start to end; {TAPE_TURNS} turns");
+    print_line("tape", theirs, our);
+}
+
+/// Milliseconds.
+fn process(command: &mut Command, file: &str) -> f64 {
+    let frames = File::open(file).expect("the frames are there");
+    let began = Instant::now();
+    let status = command.stdin(frames).stdout(Stdio::null()).status();
+    let took = began.elapsed();
+    assert!(status.expect("it is started").success(), "it ends well");
+    took.as_secs_f64() * 1e3
 }
 
 /// A run of 16 records, at places that lie `spread` apart. Each turns a glyph

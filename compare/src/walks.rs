@@ -4,6 +4,7 @@
 //! refusals.
 use crate::differences;
 use crate::draw;
+use crate::kinds::Comparison;
 use crate::ours::{self, CSaid, CWalked, Sign};
 use crate::paper;
 use crate::random::Random;
@@ -92,7 +93,7 @@ struct Asker {
 impl Asker {
     fn new() -> Self {
         Self {
-            summary: Summary::new(&clauses()),
+            summary: Summary::new("walks", &clauses()),
             skip_by: Default::default(),
             match_by: Default::default(),
             verdict_by: Default::default(),
@@ -100,7 +101,7 @@ impl Asker {
         }
     }
 
-    fn finish(mut self) -> Summary {
+    fn count_clauses(&mut self) {
         let counted = [
             (&paper::SKIP_BY[..], &self.skip_by[..]),
             (&paper::MATCH_BY, &self.match_by),
@@ -113,7 +114,6 @@ impl Asker {
                 self.summary.decided_times(name, *times);
             }
         }
-        self.summary
     }
 
     /// The paper's judgement, counted. May match decides nothing after a Yes.
@@ -519,17 +519,30 @@ fn refused_shown(case: &Case, place: usize, name: &str) -> String {
     format!("{name} from {place}, len {}, {words} words, {sets} set words", case.len)
 }
 
-pub fn compare(steps: u64, random: &mut Random) -> Summary {
-    let mut asker = Asker::new();
-    every_glyph(&mut asker);
-    every_row(&mut asker);
-    let mut made = 0;
-    while made < steps {
-        made += random_row(&mut asker, random);
+pub fn comparison() -> Box<dyn Comparison> {
+    Box::new(Asker::new())
+}
+
+impl Comparison for Asker {
+    fn exhaust(&mut self) {
+        every_glyph(self);
+        every_row(self);
     }
-    let plenty = draw::row(random, 1027);
-    for _ in 0..steps / 50 {
-        damaged(&mut asker, random, &plenty);
+
+    fn draw(&mut self, steps: u64, seed: u64) {
+        let random = &mut Random::new(seed);
+        let mut made = 0;
+        while made < steps {
+            made += random_row(self, random);
+        }
+        let plenty = draw::row(random, 1027);
+        for _ in 0..steps / 50 {
+            damaged(self, random, &plenty);
+        }
     }
-    asker.finish()
+
+    fn finish(mut self: Box<Self>) -> Summary {
+        self.count_clauses();
+        self.summary
+    }
 }
