@@ -46,7 +46,6 @@ const ROUNDS: u64 = 301;
 
 #[no_mangle]
 extern "C" fn main() -> i32 {
-    tape::abuse::ignore_broken_pipes();
     let words: Vec<String> = std::env::args().skip(1).collect();
     let words: Vec<&str> = words.iter().map(String::as_str).collect();
     match words[..] {

@@ -4,6 +4,8 @@
 //!
 //! Of an answer everything is compared: number, spent, d, idx, count, all 64
 //! slots, and every word of both rows.
+pub mod corners;
+
 use crate::kinds::Comparison;
 use crate::ours::{self, CMatched, CRan};
 use crate::paper::runs::{self, Asked, By, Ran, ROW, ROW_WORDS};
@@ -713,7 +715,17 @@ pub fn comparison() -> Box<dyn Comparison> {
 }
 
 impl Comparison for Asker {
-    fn exhaust(&mut self) {}
+    fn exhaust(&mut self) {
+        for case in corners::cards() {
+            self.ask("cards K11 to K14", &case, None);
+        }
+        for case in corners::at_the_limit() {
+            self.ask("texts that grow to 1,024 glyphs", &case, None);
+        }
+        for case in corners::chains() {
+            self.ask("chains over each glyph of an alphabet", &case, None);
+        }
+    }
 
     fn draw(&mut self, steps: u64, seed: u64) {
         let random = &mut Random::new(seed);

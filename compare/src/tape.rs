@@ -245,7 +245,7 @@ impl Asker {
         let input = child.stdin.take().expect("a pipe");
         let mut output = BufReader::with_capacity(1 << 16, child.stdout.take().expect("a pipe"));
         let (trial, written) = (self.trial, lines.clone());
-        let writer = std::thread::spawn(move || write_lines(written, trial, input));
+        let writer = program::writer(move || write_lines(written, trial, input));
         for line in lines {
             if !self.compare_next(&mut output, &line) {
                 break;

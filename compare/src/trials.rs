@@ -72,37 +72,33 @@ fn print(name: &str, summary: &Summary) -> bool {
     noticed
 }
 
-/// A part of the steps at a time, until both sides have disagreed.
-fn in_parts(steps: u64, seed: u64, mut part: impl FnMut(u64, u64) -> bool) {
-    const PARTS: u64 = 10;
-    for i in 0..PARTS {
-        if part(steps / PARTS, seed.wrapping_add(i)) {
-            return;
-        }
-    }
-}
-
-fn both_disagreed(summary: &Summary) -> bool {
-    summary.first(Side::Original).is_some() && summary.first(Side::Paper).is_some()
-}
-
 fn of_runs(trial: Option<&'static runs::RunTrial>, steps: u64, seed: u64) -> Summary {
     let mut asker = crate::runs::Asker::new(trial);
     asker.summary.be_quiet();
-    in_parts(steps, seed, |steps, seed| {
-        asker.draw(steps, seed);
-        both_disagreed(&asker.summary)
-    });
+    until_both_disagree(&mut asker, |asker| &asker.summary, steps, seed);
     asker.summary
 }
 
 fn of_tape(trial: Option<&'static tape::TapeTrial>, steps: u64, seed: u64) -> Summary {
     let mut asker = crate::tape::Asker::new(trial);
     asker.summary.be_quiet();
-    asker.exhaust();
-    in_parts(steps, seed, |steps, seed| {
-        asker.draw(steps, seed);
-        both_disagreed(&asker.summary)
-    });
+    until_both_disagree(&mut asker, |asker| &asker.summary, steps, seed);
     asker.summary
+}
+
+/// A part of the steps at a time; where that isn't enough, every small input.
+fn until_both_disagree<C: Comparison>(
+    asker: &mut C,
+    summary: fn(&C) -> &Summary,
+    steps: u64,
+    seed: u64,
+) {
+    const PARTS: u64 = 10;
+    for i in 0..PARTS {
+        asker.draw(steps / PARTS, seed.wrapping_add(i));
+        if [Side::Original, Side::Paper].iter().all(|&side| summary(asker).first(side).is_some()) {
+            return;
+        }
+    }
+    asker.exhaust();
 }

@@ -17,11 +17,10 @@
 use super::{Line, List};
 use crate::paper::runs::{By, NAMES};
 use crate::random::Random;
+use crate::runs::corners::{at_the_limit, cards};
 use crate::runs::{draw_book, draw_case, draw_setup, style, Case, Style};
-use original::glyphs::Glyph;
 use original::hook::Mode;
 use original::runs::Book;
-use original::terms::Setup;
 
 const SEED: u64 = 6;
 const ENOUGH: usize = 985_000;
@@ -128,46 +127,4 @@ impl Writer<'_> {
         self.list.push(line);
         true
     }
-}
-
-fn plain() -> Setup {
-    Setup { mask: 1, ..Setup::default() }
-}
-
-fn glyphs(ids: &[u32]) -> Vec<Glyph> {
-    ids.iter().map(|&id| [id, 1, 0, 0x0101]).collect()
-}
-
-/// K11 to K14.
-fn cards() -> Vec<Case> {
-    let grows = [2, 0, 0, 4, 2, 2, 2, 2];
-    let deletes = [2, 0, 0, 2, 2, 0];
-    let card = |book: &[u16], allowance, depth| {
-        let text = glyphs(&[1, 2, 3]);
-        let case = Case::new(plain(), book.to_vec(), [&[], &text], vec![1, 0], &[0, 1, 2], 3);
-        Case { allowance, depth, ..case }
-    };
-    vec![
-        card(&grows, 1, 1),
-        card(&grows, 0, 1),
-        card(&deletes, 1, 1),
-        card(&grows, 1, 0),
-        card(&grows, 0, 0),
-    ]
-}
-
-/// Texts that grow to 1,024 glyphs exactly and no further: Full at the top, and
-/// Full below, after which positions are still repaired.
-fn at_the_limit() -> Vec<Case> {
-    // 0: 2 into 2, 2. 1: 2, 1 with records (0, 0), (0, 0), (0, 0).
-    let book = [2, 0, 0, 4, 2, 2, 2, 2, 3, 0, 0, 12, 2, 0, 1, 1, 0, 3, 0, 0, 0, 0, 0, 0];
-    let mut book = book.to_vec();
-    book[11] = (book.len() - 12) as u16;
-    let text = |length: usize| glyphs(&[vec![2], vec![1; length - 1]].concat());
-    let whole = text(1023);
-    let top =
-        Case::new(plain(), book.clone(), [&[], &whole], vec![0, 0, 0, 0, 0, 0], &[0, 1, 3], 5);
-    let lower = text(1022);
-    let below = Case::new(plain(), book, [&lower[..0], &lower], vec![0, 1, 1, 0], &[0, 1, 3], 5);
-    [top, below].into_iter().map(|case| Case { allowance: 9, depth: 3, ..case }).collect()
 }

@@ -31,15 +31,12 @@ extern "C" {
     fn close(fd: i32) -> i32;
     fn kill(process: i32, number: i32) -> i32;
 }
-const SIGPIPE: i32 = 13;
 const SIGCONT: i32 = 18;
 const SIGSTOP: i32 = 19;
 const IGNORED: usize = 1;
 
-/// C's start-up leaves broken pipes deadly, Rust's doesn't. Processes that are
-/// started have them deadly again, as from a shell.
-pub fn ignore_broken_pipes() {
-    unsafe { signal(SIGPIPE, IGNORED) };
+fn ignore_broken_pipes() {
+    unsafe { signal(program::SIGPIPE, IGNORED) };
 }
 
 struct Abuse {
@@ -184,7 +181,7 @@ fn gather(child: &mut Child, wait: Duration) -> Option<JoinHandle<Vec<u8>>> {
 /// Lets a thread write to a process, which is then followed.
 fn fed(mut child: Child, write: impl FnOnce(&mut ChildStdin) + Send + 'static) -> Ended {
     let mut input = child.stdin.take().expect("a pipe");
-    let writer = thread::spawn(move || write(&mut input));
+    let writer = program::writer(move || write(&mut input));
     let reader = gather(&mut child, Duration::ZERO);
     let ended = follow(child, reader);
     writer.join().expect("the tape is written");
@@ -263,7 +260,7 @@ impl Abuse {
             let mut child = start(command.stdin(Stdio::piped()));
             drop(child.stdout.take());
             let mut input = child.stdin.take().expect("a pipe");
-            let writer = thread::spawn(move || write_frames(&mut input, MANY));
+            let writer = program::writer(move || write_frames(&mut input, MANY));
             let how = follow(child, None).how;
             let written = writer.join().expect("the tape is written");
             format!("{how}, {}", if written >= MANY { "reads all" } else { "stops reading" })
@@ -350,7 +347,7 @@ impl Abuse {
         let mut child = start(&mut piped());
         let mut input = child.stdin.take().expect("a pipe");
         let written = tape.clone();
-        let writer = thread::spawn(move || drop(input.write_all(&written)));
+        let writer = program::writer(move || drop(input.write_all(&written)));
         let reader = gather(&mut child, Duration::from_secs(1));
         let ended = follow(child, reader);
         writer.join().expect("the tape is written");

@@ -1,0 +1,91 @@
+//! Runs for which no seed is needed.
+use super::Case;
+use crate::walks::{all_settings, ALPHABET, PROPS};
+use original::glyphs::Glyph;
+use original::terms::Setup;
+
+fn plain() -> Setup {
+    Setup { mask: 1, ..Setup::default() }
+}
+
+fn glyphs(ids: &[u32]) -> Vec<Glyph> {
+    ids.iter().map(|&id| [id, 1, 0, 0x0101]).collect()
+}
+
+/// K11 to K14.
+pub fn cards() -> Vec<Case> {
+    let grows = [2, 0, 0, 4, 2, 2, 2, 2];
+    let deletes = [2, 0, 0, 2, 2, 0];
+    let card = |book: &[u16], allowance, depth| {
+        let text = glyphs(&[1, 2, 3]);
+        let case = Case::new(plain(), book.to_vec(), [&[], &text], vec![1, 0], &[0, 1, 2], 3);
+        Case { allowance, depth, ..case }
+    };
+    vec![
+        card(&grows, 1, 1),
+        card(&grows, 0, 1),
+        card(&deletes, 1, 1),
+        card(&grows, 1, 0),
+        card(&grows, 0, 0),
+    ]
+}
+
+/// Texts that grow to 1,024 glyphs exactly and no further: Full at the top, and
+/// Full below, after which positions are still repaired.
+pub fn at_the_limit() -> Vec<Case> {
+    // 0: 2 into 2, 2. 1: 2, 1 with records (0, 0), (0, 0), (0, 0).
+    let book = [2, 0, 0, 4, 2, 2, 2, 2, 3, 0, 0, 12, 2, 0, 1, 1, 0, 3, 0, 0, 0, 0, 0, 0];
+    let mut book = book.to_vec();
+    book[11] = (book.len() - 12) as u16;
+    let text = |length: usize| glyphs(&[vec![2], vec![1; length - 1]].concat());
+    let whole = text(1023);
+    let top =
+        Case::new(plain(), book.clone(), [&[], &whole], vec![0, 0, 0, 0, 0, 0], &[0, 1, 3], 5);
+    let lower = text(1022);
+    let below = Case::new(plain(), book, [&lower[..0], &lower], vec![0, 1, 1, 0], &[0, 1, 3], 5);
+    [top, below].into_iter().map(|case| Case { allowance: 9, depth: 3, ..case }).collect()
+}
+
+/// What a chain looks for 7 in.
+#[derive(Clone, Copy)]
+enum Part {
+    Back,
+    Input,
+    Ahead,
+}
+
+/// A chain over 5 and 7, which turns 5 into 6, with each glyph of an alphabet
+/// between the two: in each direction, under all settings, lookups and masks.
+pub fn chains() -> impl Iterator<Item = Case> {
+    let setups = all_settings().filter(|setup| !setup.gpos);
+    let setups = setups.flat_map(|setup| [1, 2, 0].map(|mask| Setup { mask, ..setup.clone() }));
+    setups.flat_map(|setup| {
+        let parts = [Part::Back, Part::Input, Part::Ahead].into_iter();
+        let lookups = parts.flat_map(|part| PROPS.map(|props| (part, props)));
+        lookups.flat_map(move |(part, props)| {
+            let setup = setup.clone();
+            let glyphs = ALPHABET.into_iter().flat_map(|between| [0, 1].map(|n| (between, n)));
+            glyphs.map(move |(between, syllable)| chain(&setup, part, props, between, syllable))
+        })
+    })
+}
+
+/// The cursor glyph's syllable is the one that is tested.
+fn chain(setup: &Setup, part: Part, props: u32, between: Glyph, syllable: u32) -> Case {
+    let (five, seven) = ([5, 1, syllable << 16, 0x0101], [7, 1, 1 << 16, 0x0101]);
+    let lists: &[u16] = match part {
+        Part::Back => &[1, 7, 0, 0],
+        Part::Input => &[0, 1, 7, 0],
+        Part::Ahead => &[0, 0, 1, 7],
+    };
+    // First id, the three lists, one record: lookup 1 at the cursor.
+    let body = [&[5][..], lists, &[1, 0, 1]].concat();
+    let head = [3, props as u16, (props >> 16) as u16, body.len() as u16];
+    let book = [&head[..], &body, &[1, 0, 0, 2, 5, 6]].concat();
+    let (done, coming) = match part {
+        Part::Back => (vec![seven, between], vec![five]),
+        Part::Input | Part::Ahead => (vec![], vec![five, between, seven]),
+    };
+    let case = Case::new(setup.clone(), book, [&done, &coming], vec![0, 0], &[0], 1);
+    Case { allowance: 9, depth: 2, ..case }
+}
