@@ -10,19 +10,22 @@ const ELSEWHERE: Duration = Duration::from_secs(15);
 
 pub struct Progress {
     terminal: bool,
+    began: Instant,
     said: Instant,
 }
 
 impl Progress {
     pub fn new() -> Self {
-        Self { terminal: stderr().is_terminal(), said: Instant::now() }
+        let now = Instant::now();
+        Self { terminal: stderr().is_terminal(), began: now, said: now }
     }
 
     pub fn tick(&mut self, name: &str, inputs: u64, disagreed: u64) {
         let every = if self.terminal { ON_A_TERMINAL } else { ELSEWHERE };
         if inputs % LOOK == 0 && self.said.elapsed() >= every {
             self.said = Instant::now();
-            let line = format!("{name}: {} inputs, {disagreed} disagreed", grouped(inputs));
+            let (inputs, took) = (grouped(inputs), self.began.elapsed().as_secs());
+            let line = format!("{took} s, {name}: {inputs} inputs, {disagreed} disagreed");
             say(&line, self.terminal);
         }
     }

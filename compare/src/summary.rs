@@ -160,7 +160,9 @@ impl Summary {
         for note in &self.notes {
             println!("  {note}");
         }
-        println!("  decided by");
+        if !self.clauses.is_empty() {
+            println!("  decided by");
+        }
         for (clause, count) in &self.clauses {
             let never = if *count == 0 { "   NEVER" } else { "" };
             println!("  {:>12}  {clause}{never}", grouped(*count));

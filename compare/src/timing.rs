@@ -134,7 +134,7 @@ fn print_line(name: &str, theirs: Times, our: Times) {
     let [best, median] = theirs.best_and_median();
     let [our_best, our_median] = our.best_and_median();
     let ratios = [our_best / best, our_median / median];
-    print!("  {name:<46} {best:>8.2} {median:>8.2}  {our_best:>8.2} {our_median:>8.2}");
+    print!("  {name:<48} {best:>8.2} {median:>8.2}  {our_best:>8.2} {our_median:>8.2}");
     println!("  {:>6.2} {:>6.2}", ratios[0], ratios[1]);
 }
 
@@ -143,9 +143,9 @@ pub fn run(rounds: u32, place: &str) -> i32 {
     println!("timing: {place}");
     println!("best and median of {rounds} rounds, the two sides by turns, inputs drawn from seed {SEED};");
     println!("the ratio is ours to the original's, below 1 where ours is faster");
-    println!("  {:46} {:^17}  {:^17}  {:^13}", "", "original", "ours", "ratio");
+    println!("  {:48} {:^17}  {:^17}  {:^13}", "", "original", "ours", "ratio");
     let two = |width: usize| format!("{:>width$} {:>width$}", "best", "median");
-    println!("  {:46} {}  {}  {}", "", two(8), two(8), two(6));
+    println!("  {:48} {}  {}  {}", "", two(8), two(8), two(6));
     println!("nanoseconds a question to a digest, of {GLYPHS} by turns");
     for glyphs in [8, 200] {
         digests(rounds, glyphs);
