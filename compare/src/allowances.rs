@@ -5,6 +5,7 @@ use crate::kinds::Comparison;
 use crate::ours;
 use crate::random::Random;
 use crate::summary::Summary;
+use crate::trials::Trial;
 use original::allowances::{Allowance, Size, SIZES};
 
 #[derive(Clone, Copy)]
@@ -103,11 +104,22 @@ fn clause(left: [u64; 2], step: Step) -> &'static str {
     }
 }
 
+/// A step on what is left; what ours has left then, and whether it was taken.
+pub type AllowanceTrial = Trial<([u64; 2], Step), (ours::Allowance, bool)>;
+
 /// Makes the step on both; answers what ours has left.
-fn compare_step(left: [u64; 2], step: Step, summary: &mut Summary) -> [u64; 2] {
+fn compare_step(
+    left: [u64; 2],
+    step: Step,
+    summary: &mut Summary,
+    trial: Option<&'static AllowanceTrial>,
+) -> [u64; 2] {
     summary.decided(clause(left, step));
     let (original, taken) = step.by_original(left);
-    let (ours, our_taken) = step.by_ours(left);
+    let (ours, our_taken) = match trial {
+        None => step.by_ours(left),
+        Some(trial) => trial.answer(&(left, step), |(left, step)| step.by_ours(*left)),
+    };
     let shown = || format!("{}, which leaves {:X?} in ours", step.shown(left), ours.0);
     // Our side of the second part is what must be: exactly this remains.
     summary.compare(&(taken, original.holds(ours.0)), &(our_taken, true), || None, shown);
@@ -225,55 +237,64 @@ pub fn corners() -> Vec<u64> {
     numbers
 }
 
-fn exhaustive(summary: &mut Summary) {
+fn exhaustive(summary: &mut Summary, trial: Option<&'static AllowanceTrial>) {
     let corners = corners();
     for bytes in
         corners.iter().copied().chain(0..=2100).chain(16_000..=17_000).chain(524_000..=525_000)
     {
         summary.input("openings");
-        compare_step([0; 2], Step::ForTableBytes(bytes), summary);
+        compare_step([0; 2], Step::ForTableBytes(bytes), summary, trial);
     }
     for &left in &corners {
         for &n in &corners {
             summary.input("charges of each corner on each corner");
-            compare_step([left, n], Step::Work(n), summary);
+            compare_step([left, n], Step::Work(n), summary, trial);
             for &size in SIZES {
                 let bytes = size.bytes.max(1);
                 for count in [n, n / bytes, (n / bytes).wrapping_add(1)] {
                     summary.input("charges of each corner on each corner");
-                    compare_step([n, left], Step::Alloc(count, size), summary);
+                    compare_step([n, left], Step::Alloc(count, size), summary, trial);
                 }
             }
         }
     }
 }
 
-struct Allowances(Summary);
+pub struct Allowances {
+    pub summary: Summary,
+    trial: Option<&'static AllowanceTrial>,
+}
+
+impl Allowances {
+    pub fn new(trial: Option<&'static AllowanceTrial>) -> Self {
+        Self { summary: Summary::new("allowances", &clauses()), trial }
+    }
+}
 
 pub fn comparison() -> Box<dyn Comparison> {
-    Box::new(Allowances(Summary::new("allowances", &clauses())))
+    Box::new(Allowances::new(None))
 }
 
 impl Comparison for Allowances {
     fn exhaust(&mut self) {
-        exhaustive(&mut self.0);
+        exhaustive(&mut self.summary, self.trial);
     }
 
     fn draw(&mut self, steps: u64, seed: u64) {
         let random = &mut Random::new(seed);
         let mut made = 0;
         while made < steps {
-            made += compare_sequence(random, &mut self.0);
+            made += compare_sequence(random, &mut self.summary);
             let mut left = state(random);
             for _ in 0..4 {
-                self.0.input("random steps, what remains compared after each");
-                left = compare_step(left, step(random, left), &mut self.0);
+                self.summary.input("random steps, what remains compared after each");
+                left = compare_step(left, step(random, left), &mut self.summary, self.trial);
                 made += 1;
             }
         }
     }
 
     fn finish(self: Box<Self>) -> Summary {
-        self.0
+        self.summary
     }
 }

@@ -8,6 +8,7 @@ use crate::kinds::Comparison;
 use crate::ours;
 use crate::random::Random;
 use crate::summary::Summary;
+use crate::trials::Trial;
 use original::digests::{masks, RuleDigest, SetDigest};
 
 pub const SHIFTS: [u32; 3] = [4, 0, 6];
@@ -55,12 +56,16 @@ pub enum Step {
 }
 
 /// A step with what the original made of it.
+#[derive(Clone)]
 pub struct Asked {
     pub before: Known,
     pub step: Step,
     pub after: Known,
     pub yes: Option<bool>,
 }
+
+/// The masks afterwards, and yes or no where that is asked.
+pub type DigestTrial = Trial<Asked, ([u64; 3], Option<bool>)>;
 
 pub fn ask(before: &Known, step: Step) -> Asked {
     let mut digest = before.digest.clone();
@@ -112,10 +117,11 @@ impl Asked {
         format!("{step} on {:X?}", self.before.masks)
     }
 
-    fn compare(&self, summary: &mut Summary) {
+    fn compare(&self, summary: &mut Summary, trial: Option<&'static DigestTrial>) {
         self.count(summary);
         let original = (self.after.masks, self.yes);
-        summary.compare(&original, &self.ours(), || None, || self.shown());
+        let ours = trial.map_or_else(|| self.ours(), |trial| trial.answer(self, Asked::ours));
+        summary.compare(&original, &ours, || None, || self.shown());
     }
 
     /// Which clauses of the original's code this step went through.
@@ -474,25 +480,25 @@ pub fn lacking_rule() -> impl Iterator<Item = AskedRule> {
 
 /// Every range over the end points, and every glyph up to 4,096 and from
 /// 2^32 - 4,096, on each start; and each bit that is lacking.
-fn exhaustive(summary: &mut Summary) {
+fn exhaustive(summary: &mut Summary, trial: Option<&'static DigestTrial>) {
     let points = end_points();
     for start in starts() {
         for &a in &points {
             for &b in &points {
                 summary.input("ranges over the end points");
-                ask(&start, Step::AddRange(a, b)).compare(summary);
+                ask(&start, Step::AddRange(a, b)).compare(summary, trial);
             }
         }
         for g in (0..=4096).chain(u32::MAX - 4096..=u32::MAX) {
             for step in [Step::Add(g), Step::MayHave(g)] {
                 summary.input("each glyph at the ends, added and asked for");
-                ask(&start, step).compare(summary);
+                ask(&start, step).compare(summary, trial);
             }
         }
     }
     for asked in lacking() {
         summary.input("the one bit that is lacking");
-        asked.compare(summary);
+        asked.compare(summary, trial);
     }
     for asked in lacking_rule() {
         summary.input("the one bit that is lacking");
@@ -504,15 +510,24 @@ fn exhaustive(summary: &mut Summary) {
     }
 }
 
-struct Digests(Summary);
+pub struct Digests {
+    pub summary: Summary,
+    trial: Option<&'static DigestTrial>,
+}
+
+impl Digests {
+    pub fn new(trial: Option<&'static DigestTrial>) -> Self {
+        Self { summary: Summary::new("digests", &clauses()), trial }
+    }
+}
 
 pub fn comparison() -> Box<dyn Comparison> {
-    Box::new(Digests(Summary::new("digests", &clauses())))
+    Box::new(Digests::new(None))
 }
 
 impl Comparison for Digests {
     fn exhaust(&mut self) {
-        exhaustive(&mut self.0);
+        exhaustive(&mut self.summary, self.trial);
     }
 
     fn draw(&mut self, steps: u64, seed: u64) {
@@ -520,16 +535,16 @@ impl Comparison for Digests {
         let mut source = Source::new(&mut random);
         for step in 0..steps {
             if step % 8 == 0 {
-                self.0.input("random steps on one mask");
-                source.next_rule().compare(&mut self.0);
+                self.summary.input("random steps on one mask");
+                source.next_rule().compare(&mut self.summary);
             } else {
-                self.0.input("random steps on three masks");
-                source.next().compare(&mut self.0);
+                self.summary.input("random steps on three masks");
+                source.next().compare(&mut self.summary, self.trial);
             }
         }
     }
 
     fn finish(self: Box<Self>) -> Summary {
-        self.0
+        self.summary
     }
 }

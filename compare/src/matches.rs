@@ -9,6 +9,7 @@ use crate::paper;
 use crate::paper::matchers::{self, By};
 use crate::random::Random;
 use crate::summary::Summary;
+use crate::trials::Trial;
 use original::glyphs::{Glyph, SUBSTITUTED};
 use original::matches::{with_text, Held, Text};
 use original::terms::{Call, Matched, May, Role, Setup, Testing, TESTINGS};
@@ -86,9 +87,12 @@ fn row_of(call: Call) -> usize {
     }
 }
 
+pub type MatchTrial = Trial<(Case, Question), Answer>;
+
 /// Asks all sides, and counts what decided.
-struct Asker {
-    summary: Summary,
+pub struct Asker {
+    pub summary: Summary,
+    trial: Option<&'static MatchTrial>,
     by: [u64; matchers::NAMES.len()],
     /// By call and number of values: how many were asked, and matched.
     numbers: [[[u64; 2]; 66]; 3],
@@ -99,10 +103,11 @@ struct Asker {
 }
 
 impl Asker {
-    fn new() -> Self {
+    pub fn new(trial: Option<&'static MatchTrial>) -> Self {
         let names = [&matchers::NAMES[..], &matchers::FAULTS, &[SEVERAL_FAULTS]].concat();
         Self {
             summary: Summary::new("matches", &names),
+            trial,
             by: [0; matchers::NAMES.len()],
             numbers: [[[0; 2]; 66]; 3],
             with_original: 0,
@@ -140,10 +145,19 @@ impl Asker {
         ));
     }
 
+    /// In a trial a wrong answer stands in for ours.
+    fn ours(&self, case: &Case, question: &Question) -> Answer {
+        match self.trial {
+            None => question.ours(case),
+            Some(trial) => trial
+                .answer(&(case.clone(), question.clone()), |(case, question)| question.ours(case)),
+        }
+    }
+
     fn ask(&mut self, case: &Case, held: Option<&mut Held>, question: &Question) {
         let call = question.call;
         let paper = question.paper(case, |by| self.by[by as usize] += 1);
-        let ours = question.ours(case);
+        let ours = self.ours(case, question);
         let counts = &mut self.numbers[row_of(call)];
         if let Some(counts) = counts.get_mut(question.values.len()) {
             counts[0] += 1;
@@ -690,7 +704,7 @@ fn damaged(asker: &mut Asker, random: &mut Random, plenty: &[Glyph]) {
 }
 
 pub fn comparison() -> Box<dyn Comparison> {
-    Box::new(Asker::new())
+    Box::new(Asker::new(None))
 }
 
 impl Comparison for Asker {

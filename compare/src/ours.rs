@@ -45,18 +45,18 @@ fn hand<T: Copy>(what: &T) -> Handed<'_, T> {
 #[repr(C)]
 #[derive(Clone, Copy, Debug, PartialEq, Eq)]
 pub struct CWalked {
-    number: u8,
+    pub number: u8,
     /// 0 or 1, but read as a number: what is handed over isn't trusted.
-    ran_out: u8,
-    place: usize,
+    pub ran_out: u8,
+    pub place: usize,
 }
 
 /// A question's answer as it is handed over: 0 said, 1 refused.
 #[repr(C)]
 #[derive(Clone, Copy, Debug, PartialEq, Eq)]
 pub struct CSaid {
-    number: u8,
-    said: u8,
+    pub number: u8,
+    pub said: u8,
 }
 
 /// An input match as it is handed over: 0 matched, 4 with the extent as end, or

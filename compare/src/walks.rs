@@ -9,6 +9,7 @@ use crate::ours::{self, CSaid, CWalked, Sign};
 use crate::paper;
 use crate::random::Random;
 use crate::summary::Summary;
+use crate::trials::Trial;
 use original::glyphs::{Glyph, SUBSTITUTED};
 use original::terms::{Role, Setup, Test, Walked, ROLES};
 use original::walks::{with_row, Row};
@@ -22,6 +23,7 @@ pub enum Way {
 const WAYS: [Way; 2] = [Way::Forward, Way::Backward];
 
 /// What questions are put to: the first `len` glyphs are a forward walk's.
+#[derive(Clone)]
 pub struct Case {
     pub setup: Setup,
     pub glyphs: Vec<Glyph>,
@@ -50,6 +52,46 @@ impl Case {
         Sign { test, syllable: self.syllable, spare }
     }
 }
+
+/// Which of our calls is made.
+#[derive(Clone, Copy, Debug, PartialEq, Eq)]
+pub enum Asks {
+    MaySkip,
+    MayMatch,
+    Verdict,
+    Walk(Way),
+}
+
+/// A call of ours.
+#[derive(Clone)]
+pub struct Asked {
+    pub asks: Asks,
+    pub case: Case,
+    pub role: Role,
+    pub place: usize,
+    pub sign: Sign,
+}
+
+/// What it hands over; the other one of the two stays as it is here.
+pub struct Told {
+    pub said: CSaid,
+    pub walked: CWalked,
+}
+
+fn tell(asks: Asks, case: &Case, role: Role, place: usize, sign: Sign) -> Told {
+    let ours = case.ours();
+    let mut told = Told { said: CSaid::of_may(None), walked: CWalked::of(None) };
+    match asks {
+        Asks::MaySkip => told.said = ours.may_skip(role, place),
+        Asks::MayMatch => told.said = ours.may_match(role, place, sign),
+        Asks::Verdict => told.said = ours.verdict(role, place, sign),
+        Asks::Walk(Way::Forward) => told.walked = ours.forward(role, case.len, place, sign),
+        Asks::Walk(Way::Backward) => told.walked = ours.backward(role, place, sign),
+    }
+    told
+}
+
+pub type WalkTrial = Trial<Asked, Told>;
 
 /// How walks end, by their places in `ENDS`, forward and backward.
 const ENDS: [[&str; 6]; 2] = [
@@ -82,8 +124,9 @@ fn clauses() -> Vec<&'static str> {
 }
 
 /// Asks all sides, and counts what decided.
-struct Asker {
-    summary: Summary,
+pub struct Asker {
+    pub summary: Summary,
+    trial: Option<&'static WalkTrial>,
     skip_by: [u64; paper::SKIP_BY.len()],
     match_by: [u64; paper::MATCH_BY.len()],
     verdict_by: [u64; paper::VERDICT_BY.len()],
@@ -91,9 +134,10 @@ struct Asker {
 }
 
 impl Asker {
-    fn new() -> Self {
+    pub fn new(trial: Option<&'static WalkTrial>) -> Self {
         Self {
             summary: Summary::new("walks", &clauses()),
+            trial,
             skip_by: Default::default(),
             match_by: Default::default(),
             verdict_by: Default::default(),
@@ -150,35 +194,37 @@ impl Asker {
         self.summary.compare_with_paper(&paper, &ours, shown);
     }
 
+    /// In a trial a wrong answer stands in for ours.
+    fn ours(&self, asks: Asks, case: &Case, role: Role, place: usize, sign: Sign) -> Told {
+        let Some(trial) = self.trial else { return tell(asks, case, role, place, sign) };
+        let asked = Asked { asks, case: case.clone(), role, place, sign };
+        trial.answer(&asked, |Asked { asks, case, role, place, sign }| {
+            tell(*asks, case, *role, *place, *sign)
+        })
+    }
+
     fn questions(&mut self, case: &Case, row: &mut Row, role: Role, place: usize, sign: Sign) {
         let test = sign.test;
         let judged = self.judge(case, role, place, test);
-        let ours = case.ours();
+        let [skip, matches, decided] = [Asks::MaySkip, Asks::MayMatch, Asks::Verdict]
+            .map(|asks| self.ours(asks, case, role, place, sign).said);
         let may = |may| CSaid::of_may(Some(may));
         let verdict = |verdict| CSaid::of_verdict(Some(verdict));
         self.settle(
             case,
-            (may(row.may_skip(role, place)), ours.may_skip(role, place), may(judged.skip)),
+            (may(row.may_skip(role, place)), skip, may(judged.skip)),
             |row| may(row.may_skip(role, place)),
             || format!("may skip {place} {role:?}"),
         );
         self.settle(
             case,
-            (
-                may(row.may_match(role, place, test)),
-                ours.may_match(role, place, sign),
-                may(judged.matches),
-            ),
+            (may(row.may_match(role, place, test)), matches, may(judged.matches)),
             |row| may(row.may_match(role, place, test)),
             || format!("may match {place} {role:?} {sign:X?}"),
         );
         self.settle(
             case,
-            (
-                verdict(row.verdict(role, place, test)),
-                ours.verdict(role, place, sign),
-                verdict(judged.verdict),
-            ),
+            (verdict(row.verdict(role, place, test)), decided, verdict(judged.verdict)),
             |row| verdict(row.verdict(role, place, test)),
             || format!("verdict {place} {role:?} {sign:X?}"),
         );
@@ -195,10 +241,7 @@ impl Asker {
         let paper = self.paper_walk(case, (way, role), place, sign.test);
         let original =
             |row: &mut Row| CWalked::of(Some(walked(row, (way, role), place, sign.test)));
-        let ours = match way {
-            Way::Forward => case.ours().forward(role, case.len, place, sign),
-            Way::Backward => case.ours().backward(role, place, sign),
-        };
+        let ours = self.ours(Asks::Walk(way), case, role, place, sign).walked;
         self.settle(case, (original(row), ours, CWalked::of(Some(paper))), original, || {
             format!("{way:?} from {place} {role:?} {sign:X?}")
         });
@@ -464,10 +507,7 @@ fn damaged(asker: &mut Asker, random: &mut Random, plenty: &[Glyph]) {
             [fault] => paper::REFUSED_BY[fault],
             _ => SEVERAL_FAULTS,
         });
-        let ours = match way {
-            Way::Forward => case.ours().forward(role, case.len, place, sign),
-            Way::Backward => case.ours().backward(role, place, sign),
-        };
+        let ours = asker.ours(Asks::Walk(way), &case, role, place, sign).walked;
         let shown = || refused_shown(&case, place, &format!("{way:?}"));
         asker.summary.compare_with_paper(&CWalked::of(None), &ours, shown);
     }
@@ -484,13 +524,13 @@ fn damaged_questions(
     place: usize,
     sign: Sign,
 ) {
-    let ours = case.ours();
     let asked = [
-        ("may skip", ours.may_skip(role, place), &case.setup.sets[..]),
-        ("may match", ours.may_match(role, place, sign), &[]),
-        ("verdict", ours.verdict(role, place, sign), &case.setup.sets),
+        ("may skip", Asks::MaySkip, &case.setup.sets[..]),
+        ("may match", Asks::MayMatch, &[]),
+        ("verdict", Asks::Verdict, &case.setup.sets),
     ];
-    for (i, (name, ours, sets)) in asked.into_iter().enumerate() {
+    for (i, (name, asks, sets)) in asked.into_iter().enumerate() {
+        let ours = asker.ours(asks, case, role, place, sign).said;
         asker.summary.input("damaged calls of questions");
         let faults = paper::faults(&case.words, None, None, sets);
         let past = place >= whole;
@@ -520,7 +560,7 @@ fn refused_shown(case: &Case, place: usize, name: &str) -> String {
 }
 
 pub fn comparison() -> Box<dyn Comparison> {
-    Box::new(Asker::new())
+    Box::new(Asker::new(None))
 }
 
 impl Comparison for Asker {

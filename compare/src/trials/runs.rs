@@ -10,216 +10,253 @@ const SHORT: u8 = 8;
 const DEEP: u8 = 9;
 const FULL: u8 = 10;
 
-pub static TRIALS: [RunTrial; 44] = [
-    // What may be spent, and how deep.
-    Trial::asked("runs: one more may be spent", |case| {
-        if case.allowance < 0x7FFF_FFFF {
-            case.allowance += 1;
-        }
-    }),
-    Trial::asked("runs: one less may be spent", |case| {
-        case.allowance = case.allowance.saturating_sub(1)
-    }),
-    Trial::asked("runs: one level more", |case| {
-        case.depth = if case.depth < 64 { case.depth + 1 } else { case.depth }
-    }),
-    Trial::asked("runs: one level less", |case| case.depth = case.depth.saturating_sub(1)),
-    Trial::answered("runs: one more is said to be spent", |_, after| {
-        if after.is_accepted() {
-            after.answer.spent += 1;
-        }
-    }),
-    Trial::answered("runs: Deep spends the try that it refuses", |_, after| {
-        if after.answer.number == DEEP {
-            after.answer.spent += 1;
-        }
-    }),
-    Trial::answered("runs: Full doesn't spend the try that met it", |_, after| {
-        if after.answer.number == FULL {
-            after.answer.spent -= 1;
-        }
-    }),
-    // Endings.
-    Trial::answered("runs: Short is Finished", |_, after| after.instead(SHORT, 0)),
-    Trial::answered("runs: Deep is Finished", |_, after| after.instead(DEEP, 0)),
-    Trial::answered("runs: Full is Finished", |_, after| after.instead(FULL, 0)),
-    Trial::answered("runs: Deep comes before Short", |case, after| {
-        if case.depth == 0 {
-            after.instead(SHORT, DEEP);
-        }
-    }),
-    Trial::answered("runs: Finished with nothing left is Short", |case, after| {
-        if after.answer.spent == case.allowance {
-            after.instead(0, SHORT);
-        }
-    }),
-    // Records, and what a match says.
-    Trial::asked("runs: the last record is left out", |case| {
-        case.records.truncate(case.records.len().saturating_sub(2))
-    }),
-    Trial::asked("runs: records from the last to the first", |case| {
-        case.records = case.records.chunks(2).rev().flatten().copied().collect()
-    }),
-    Trial::asked("runs: a lookup's index is a byte", |case| {
-        case.records.iter_mut().skip(1).step_by(2).for_each(|index| *index &= 0xFF)
-    }),
-    Trial::asked("runs: only the first position counts", |case| {
-        if (2..=64).contains(&case.matched.count) {
-            case.matched.count = 1;
-        }
-    }),
-    Trial::asked("runs: the end is behind the last position", |case| {
-        let last = case.matched.positions.get(case.matched.count.wrapping_sub(1));
-        if let Some(&last) = last.filter(|&&last| usize::from(last) < case.matched.end) {
-            case.matched.end = usize::from(last) + 1;
-        }
-    }),
-    // Chains, and what they look at.
-    Trial::asked("runs: the lookup mask isn't looked at", |case| case.setup.mask = u32::MAX),
-    Trial::asked("runs: syllables aren't tested", |case| case.setup.per_syllable = false),
-    Trial::asked("runs: auto-ZWJ is off", |case| case.setup.auto_zwj = false),
-    Trial::asked("runs: auto-ZWNJ is off", |case| case.setup.auto_zwnj = false),
-    Trial::asked("runs: no glyph is in a mark set", |case| {
-        if case.setup.sets.len() % 2 == 0 {
-            case.setup.sets.clear();
-        }
-    }),
-    Trial::asked("runs: a chain's props aren't looked at", |case| {
-        rewrite(case, |lookup| {
-            if let Lookup::Three { props, .. } = lookup {
-                *props = 0;
+pub fn trials() -> Vec<RunTrial> {
+    let parts = [spending(), endings(), records(), chains(), texts(), positions(), refusals()];
+    parts.into_iter().flatten().collect()
+}
+
+/// What may be spent, and how deep.
+fn spending() -> Vec<RunTrial> {
+    vec![
+        RunTrial::asked("one more may be spent", |case| {
+            if case.allowance < 0x7FFF_FFFF {
+                case.allowance += 1;
             }
-        })
-    }),
-    Trial::asked("runs: a chain's backtrack isn't looked at", |case| {
-        rewrite(case, |lookup| {
-            if let Lookup::Three { back, .. } = lookup {
-                back.clear();
+        }),
+        RunTrial::asked("one less may be spent", |case| {
+            case.allowance = case.allowance.saturating_sub(1)
+        }),
+        RunTrial::asked("one level more", |case| {
+            case.depth = if case.depth < 64 { case.depth + 1 } else { case.depth }
+        }),
+        RunTrial::asked("one level less", |case| case.depth = case.depth.saturating_sub(1)),
+        RunTrial::answered("one more is said to be spent", |_, after| {
+            if after.is_accepted() {
+                after.answer.spent += 1;
             }
-        })
-    }),
-    Trial::asked("runs: a chain's backtrack from its far end", |case| {
-        rewrite(case, |lookup| {
-            if let Lookup::Three { back, .. } = lookup {
-                back.reverse();
+        }),
+        RunTrial::answered("Deep spends the try that it refuses", |_, after| {
+            if after.answer.number == DEEP {
+                after.answer.spent += 1;
             }
-        })
-    }),
-    Trial::asked("runs: a chain's lookahead isn't looked at", |case| {
-        rewrite(case, |lookup| {
-            if let Lookup::Three { ahead, .. } = lookup {
-                ahead.clear();
+        }),
+        RunTrial::answered("Full doesn't spend the try that met it", |_, after| {
+            if after.answer.number == FULL {
+                after.answer.spent -= 1;
             }
-        })
-    }),
-    Trial::asked("runs: a chain's last record is left out", |case| {
-        rewrite(case, |lookup| {
-            if let Lookup::Three { records, .. } = lookup {
-                records.truncate(records.len().saturating_sub(2));
+        }),
+    ]
+}
+
+/// Endings.
+fn endings() -> Vec<RunTrial> {
+    vec![
+        RunTrial::answered("Short is Finished", |_, after| after.instead(SHORT, 0)),
+        RunTrial::answered("Deep is Finished", |_, after| after.instead(DEEP, 0)),
+        RunTrial::answered("Full is Finished", |_, after| after.instead(FULL, 0)),
+        RunTrial::answered("Deep comes before Short", |case, after| {
+            if case.depth == 0 {
+                after.instead(SHORT, DEEP);
             }
-        })
-    }),
-    Trial::asked("runs: kind 2 without results does nothing", |case| {
-        rewrite(case, |lookup| {
-            if let Lookup::Two { from, ids, .. } = lookup {
-                if ids.is_empty() {
-                    ids.push(*from);
+        }),
+        RunTrial::answered("Finished with nothing left is Short", |case, after| {
+            if after.answer.spent == case.allowance {
+                after.instead(0, SHORT);
+            }
+        }),
+    ]
+}
+
+/// Records, and what a match says.
+fn records() -> Vec<RunTrial> {
+    vec![
+        RunTrial::asked("the last record is left out", |case| {
+            case.records.truncate(case.records.len().saturating_sub(2))
+        }),
+        RunTrial::asked("records from the last to the first", |case| {
+            case.records = case.records.chunks(2).rev().flatten().copied().collect()
+        }),
+        RunTrial::asked("a lookup's index is a byte", |case| {
+            case.records.iter_mut().skip(1).step_by(2).for_each(|index| *index &= 0xFF)
+        }),
+        RunTrial::asked("only the first position counts", |case| {
+            if (2..=64).contains(&case.matched.count) {
+                case.matched.count = 1;
+            }
+        }),
+        RunTrial::asked("the end is behind the last position", |case| {
+            let last = case.matched.positions.get(case.matched.count.wrapping_sub(1));
+            if let Some(&last) = last.filter(|&&last| usize::from(last) < case.matched.end) {
+                case.matched.end = usize::from(last) + 1;
+            }
+        }),
+    ]
+}
+
+/// Chains, and what they look at.
+fn chains() -> Vec<RunTrial> {
+    vec![
+        RunTrial::asked("the lookup mask isn't looked at", |case| case.setup.mask = u32::MAX),
+        RunTrial::asked("syllables aren't tested", |case| case.setup.per_syllable = false),
+        RunTrial::asked("auto-ZWJ is off", |case| case.setup.auto_zwj = false),
+        RunTrial::asked("auto-ZWNJ is off", |case| case.setup.auto_zwnj = false),
+        RunTrial::asked("no glyph is in a mark set", |case| {
+            if case.setup.sets.len() % 2 == 0 {
+                case.setup.sets.clear();
+            }
+        }),
+        RunTrial::asked("a chain's props aren't looked at", |case| {
+            rewrite(case, |lookup| {
+                if let Lookup::Three { props, .. } = lookup {
+                    *props = 0;
                 }
+            })
+        }),
+        RunTrial::asked("a chain's backtrack isn't looked at", |case| {
+            rewrite(case, |lookup| {
+                if let Lookup::Three { back, .. } = lookup {
+                    back.clear();
+                }
+            })
+        }),
+        RunTrial::asked("a chain's backtrack from its far end", |case| {
+            rewrite(case, |lookup| {
+                if let Lookup::Three { back, .. } = lookup {
+                    back.reverse();
+                }
+            })
+        }),
+        RunTrial::asked("a chain's lookahead isn't looked at", |case| {
+            rewrite(case, |lookup| {
+                if let Lookup::Three { ahead, .. } = lookup {
+                    ahead.clear();
+                }
+            })
+        }),
+        RunTrial::asked("a chain's last record is left out", |case| {
+            rewrite(case, |lookup| {
+                if let Lookup::Three { records, .. } = lookup {
+                    records.truncate(records.len().saturating_sub(2));
+                }
+            })
+        }),
+        RunTrial::asked("kind 2 without results does nothing", |case| {
+            rewrite(case, |lookup| {
+                if let Lookup::Two { from, ids, .. } = lookup {
+                    if ids.is_empty() {
+                        ids.push(*from);
+                    }
+                }
+            })
+        }),
+        RunTrial::asked("kind 2 writes at most seven results", |case| {
+            rewrite(case, |lookup| {
+                if let Lookup::Two { ids, .. } = lookup {
+                    ids.truncate(7);
+                }
+            })
+        }),
+    ]
+}
+
+/// The text.
+fn texts() -> Vec<RunTrial> {
+    vec![
+        RunTrial::answered("the text isn't touched", |case, after| {
+            if after.is_accepted() {
+                let [d, idx] = [4 * case.d, 4 * case.idx];
+                after.done.fill(0);
+                after.coming.fill(0);
+                after.done[..d].copy_from_slice(&case.done[..d]);
+                after.coming[idx..].copy_from_slice(&case.coming[idx..]);
+                [after.answer.d, after.answer.idx] = [case.d, case.idx];
             }
-        })
-    }),
-    Trial::asked("runs: kind 2 writes at most seven results", |case| {
-        rewrite(case, |lookup| {
-            if let Lookup::Two { ids, .. } = lookup {
-                ids.truncate(7);
+        }),
+        RunTrial::answered("cells in neither part aren't cleared, done", |case, after| {
+            if after.is_accepted() {
+                let d = 4 * after.answer.d;
+                after.done[d..].copy_from_slice(&case.done[d..]);
             }
-        })
-    }),
-    // The text.
-    Trial::answered("runs: the text isn't touched", |case, after| {
-        if after.is_accepted() {
-            let [d, idx] = [4 * case.d, 4 * case.idx];
-            after.done.fill(0);
-            after.coming.fill(0);
-            after.done[..d].copy_from_slice(&case.done[..d]);
-            after.coming[idx..].copy_from_slice(&case.coming[idx..]);
-            [after.answer.d, after.answer.idx] = [case.d, case.idx];
-        }
-    }),
-    Trial::answered("runs: cells in neither part aren't cleared, done", |case, after| {
-        if after.is_accepted() {
-            let d = 4 * after.answer.d;
-            after.done[d..].copy_from_slice(&case.done[d..]);
-        }
-    }),
-    Trial::answered("runs: cells in neither part aren't cleared, coming", |case, after| {
-        if after.is_accepted() {
-            let idx = 4 * after.answer.idx;
-            after.coming[..idx].copy_from_slice(&case.coming[..idx]);
-        }
-    }),
-    Trial::answered("runs: the mask of a written glyph is lost", |case, after| {
-        on_written(case, after, |glyph| glyph[1] = 0)
-    }),
-    Trial::answered("runs: the syllable of a written glyph is lost", |case, after| {
-        on_written(case, after, |glyph| glyph[2] &= !0x00FF_0000)
-    }),
-    Trial::answered("runs: the ligature of a written glyph is lost", |case, after| {
-        on_written(case, after, |glyph| glyph[3] = 0)
-    }),
-    Trial::answered("runs: the cursor one glyph too early", |_, after| {
-        if after.is_accepted() {
-            after.step_back();
-        }
-    }),
-    Trial::answered("runs: no move to the end after Short", |case, after| {
-        while after.answer.number == SHORT && after.answer.d > case.d {
-            after.step_back();
-        }
-    }),
-    // Positions.
-    Trial::answered("runs: positions aren't repaired", |case, after| {
-        if after.is_accepted() {
-            let positions = first_positions(case);
-            after.set_positions(&positions);
-        }
-    }),
-    Trial::answered("runs: a loss drops the record's own position", |case, after| {
-        let mut positions = first_positions_if_accepted(case, after);
-        let lost = after.answer.count + 1 == positions.len();
-        if let ([at, _], true) = (&case.records[..], lost) {
-            positions.remove(usize::from(*at));
-            positions[usize::from(*at)..].iter_mut().for_each(|place| *place -= 1);
-            after.set_positions(&positions);
-        }
-    }),
-    Trial::answered("runs: a gain adds a position too few", |case, after| {
-        let count = after.answer.count;
-        if after.is_accepted() && count > case.matched.count {
-            after.answer.count -= 1;
-            after.answer.positions[count - 1] = 0;
-        }
-    }),
-    Trial::answered("runs: unused slots keep what the match had", |case, after| {
-        let count = after.answer.count;
-        if after.is_accepted() {
-            after.answer.positions[count..].copy_from_slice(&case.matched.positions[count..]);
-        }
-    }),
-    // Refusals.
-    Trial::answered("runs: refusal 7 instead of 11", |_, after| after.instead(11, 7)),
-    Trial::answered("runs: refusal 11 before 12", |case, after| {
-        if !crate::paper::runs::reads(&case.book) {
-            after.instead(12, 11);
-        }
-    }),
-    Trial::answered("runs: a refused run clears the cells", |case, after| {
-        if !after.is_accepted() {
-            let from = (4 * case.d.min(1024)).min(after.done.len());
-            after.done[from..].fill(0);
-        }
-    }),
-];
+        }),
+        RunTrial::answered("cells in neither part aren't cleared, coming", |case, after| {
+            if after.is_accepted() {
+                let idx = 4 * after.answer.idx;
+                after.coming[..idx].copy_from_slice(&case.coming[..idx]);
+            }
+        }),
+        RunTrial::answered("the mask of a written glyph is lost", |case, after| {
+            on_written(case, after, |glyph| glyph[1] = 0)
+        }),
+        RunTrial::answered("the syllable of a written glyph is lost", |case, after| {
+            on_written(case, after, |glyph| glyph[2] &= !0x00FF_0000)
+        }),
+        RunTrial::answered("the ligature of a written glyph is lost", |case, after| {
+            on_written(case, after, |glyph| glyph[3] = 0)
+        }),
+        RunTrial::answered("the cursor one glyph too early", |_, after| {
+            if after.is_accepted() {
+                after.step_back();
+            }
+        }),
+        RunTrial::answered("no move to the end after Short", |case, after| {
+            while after.answer.number == SHORT && after.answer.d > case.d {
+                after.step_back();
+            }
+        }),
+    ]
+}
+
+/// Positions.
+fn positions() -> Vec<RunTrial> {
+    vec![
+        RunTrial::answered("positions aren't repaired", |case, after| {
+            if after.is_accepted() {
+                let positions = first_positions(case);
+                after.set_positions(&positions);
+            }
+        }),
+        RunTrial::answered("a loss drops the record's own position", |case, after| {
+            let mut positions = first_positions_if_accepted(case, after);
+            let lost = after.answer.count + 1 == positions.len();
+            if let ([at, _], true) = (&case.records[..], lost) {
+                positions.remove(usize::from(*at));
+                positions[usize::from(*at)..].iter_mut().for_each(|place| *place -= 1);
+                after.set_positions(&positions);
+            }
+        }),
+        RunTrial::answered("a gain adds a position too few", |case, after| {
+            let count = after.answer.count;
+            if after.is_accepted() && count > case.matched.count {
+                after.answer.count -= 1;
+                after.answer.positions[count - 1] = 0;
+            }
+        }),
+        RunTrial::answered("unused slots keep what the match had", |case, after| {
+            let count = after.answer.count;
+            if after.is_accepted() {
+                after.answer.positions[count..].copy_from_slice(&case.matched.positions[count..]);
+            }
+        }),
+    ]
+}
+
+/// Refusals.
+fn refusals() -> Vec<RunTrial> {
+    vec![
+        RunTrial::answered("refusal 7 instead of 11", |_, after| after.instead(11, 7)),
+        RunTrial::answered("refusal 11 before 12", |case, after| {
+            if !crate::paper::runs::reads(&case.book) {
+                after.instead(12, 11);
+            }
+        }),
+        RunTrial::answered("a refused run clears the cells", |case, after| {
+            if !after.is_accepted() {
+                let from = (4 * case.d.min(1024)).min(after.done.len());
+                after.done[from..].fill(0);
+            }
+        }),
+    ]
+}
 
 impl After {
     fn is_accepted(&self) -> bool {
