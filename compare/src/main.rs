@@ -34,6 +34,7 @@ compare/run [KIND ...] [--steps N] [--seed S] [--minutes M]
 compare/run trials [--steps N] [--seed S]
                                     wrong answers in place of ours, each of which must be noticed
 compare/run timing [--rounds N]     how long both sides take: digests, walks, matches, runs, the tape
+compare/run tape-timing             the tape alone
 compare/run store KIND FILE         write a stored list of the original's answers: small, walks, matches, runs
 compare/run store differences FILE  write our answers to the matchers' expected differences
 compare/run differences             the headings of the expected differences";
@@ -59,6 +60,7 @@ extern "C" fn main() -> i32 {
             let Options { steps, seed, .. } = Options::of(rest, &["--steps", "--seed"]);
             trials::run(steps.unwrap_or(STEPS_OF_A_TRIAL), seed.unwrap_or(SEED))
         }
+        ["tape-timing"] => timing::run_tape(&place()),
         ["tape-original"] => tape::original(),
         _ => compare(&words),
     }
