@@ -1,15 +1,14 @@
--- What was taken plus what remains is what was opened, and Exhausted changes nothing.
+-- Of each charge (01, port order 2): what was taken plus what remains is what was there before it, Exhausted takes nothing, and taking 0 always succeeds.
 use mathlib.Core.Bool.{Bool, true, false, cond}
-use mathlib.Core.Path.{_≡_, refl, sym, ap, _∙_}
+use mathlib.Core.Path.{_≡_, refl}
 use Prim.Native.Nat.{ℕ, _+_, _-_, _*_, _≤_, _<_}
 use native.Mathlib.Omega.{arith}
-use native.Mathlib.Nat.{le-trans, lt-of-le-of-lt}
+use native.Mathlib.Nat.{le-trans, lt-of-le-of-lt, sub-zero}
 use lib.Dec.{ltb, leb}
-use borrow.Author.Tests.{le-leb, lt-leb, le-ltb, lt-ltb, leb-true, leb-false, ltb-true, ltb-false}
+use borrow.Author.Tests.{le-leb, lt-leb, le-ltb, lt-ltb, leb-true, leb-false, ltb-true}
 use Rattle.allowance.specs.declared.Budget.{Budget}
 use Rattle.allowance.specs.declared.Charge.{Charge}
 use Rattle.allowance.specs.declared.Charge.the-variants.{Taken, Exhausted}
-use Rattle.allowance.specs.declared.Charged.{Charged}
 use Rattle.allowance.specs.Allowance.{most, opened, taken, exhausted, worked, allocated}
 
 module _ (b : Budget) where
@@ -34,9 +33,14 @@ module _ (b : Budget) where
   unfolding allocated
   allocated-within n s h l = rw (le-ltb most (n * s) (le-trans h l), le-leb (n * s) (b .bytes) h)
 
-  -- taking 0 always succeeds
-  pub worked-none : worked 0 b .charge ≡ Taken
-  worked-none = rw (worked-within 0 (omega arith))
+  -- taking 0 always succeeds, and takes nothing
+  pub worked-none : worked 0 b ≡ taken b
+  worked-none = rw (worked-within 0 (omega arith), sub-zero (b .work))
+
+  -- of bytes too: no things, or things of no size
+  pub allocated-none : (n s : ℕ) → n * s ≡ 0 → allocated n s b ≡ taken b
+  unfolding allocated
+  allocated-none n s e = rw (e, le-leb 0 (b .bytes) (omega arith), sub-zero (b .bytes))
 
   -- a product that passes 64 bits is Exhausted, whatever remains
   pub product-past : (n s : ℕ) → most < n * s → allocated n s b ≡ exhausted b
