@@ -1,13 +1,13 @@
--- What a digest is for: whatever was added to it is admitted. (01, port order 1.)
-use mathlib.Core.Bool.{Bool, true, false, _&&_, _||_}
-use mathlib.Core.List.{List, [], _∷_, List·Memᴰ}
-use mathlib.Core.Path.{_≡_, refl, sym, ap, _∙_}
+-- Glyphs added one by one (01, port order 1): what a turn over a list and its end do, and that digests with the same bits stay so.
+use mathlib.Core.Bool.{Bool, _||_}
+use mathlib.Core.List.{List, [], _∷_}
+use mathlib.Core.Path.{_≡_, ap}
 use Prim.Native.Nat.{ℕ, _+_, _≤_, _<_}
 use native.Mathlib.Numerals.{add-one}
 use lib.Dec.{eqb}
 use lib.ListN.{length, getD, drop, drop-of-length-le}
 use lib.Seq.{drop-cons}
-use Rattle.digest.specs.Digest.{Bits, place, joined, added, addedAll, mayHave}
+use Rattle.digest.specs.Digest.{Bits, place, added, addedAll}
 
 -- the same bits, as far as a digest has them
 abbrev pub Same : Bits → Bits → Type 0
