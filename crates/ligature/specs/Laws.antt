@@ -110,8 +110,15 @@ module _ (id : ℕ) (gs : List Glyph) where
   base-found n j = (sound n j, complete n j)
 
   -- nothing is found exactly when there is no base
-  pub no-base : (n : ℕ) → baseBefore id gs n ≡ Nothing → (j : ℕ) → IsBase id gs n j → ⊥
-  no-base n e j b = let f = complete n j b in let z : _≡_ {A = ℕ} 0 1 = cc in omega arith
+  pub no-base : (n : ℕ) → (baseBefore id gs n ≡ Nothing) ↔ ((j : ℕ) → IsBase id gs n j → ⊥)
+  no-base n = (
+    λ e j b. let f = complete n j b in let z : _≡_ {A = ℕ} 0 1 = cc in omega arith,
+    none (baseBefore id gs n) refl,
+  )
+    where
+      none : (b : Base) → baseBefore id gs n ≡ b → ((j : ℕ) → IsBase id gs n j → ⊥) → baseBefore id gs n ≡ Nothing
+      none (At j) e h = absurd (h j (sound n j e))
+      none Nothing e h = e
 
 -- a base that the matcher ignores
 pub record IgnoredBase (m : Matcher) (sets : List ℕ) (id : ℕ) (gs : List Glyph) : Type 0 where
