@@ -9,12 +9,13 @@ use Rattle.verdict.specs.declared.Verdict.{Verdict}
 use Rattle.verdict.specs.declared.Verdict.the-variants.{Match, NotMatch, Skip}
 use Rattle.verdict.specs.Verdict.{skipOf, matchOf, verdict}
 use Rattle.ligature.specs.declared.Ligbase.{Ligbase}
-use Rattle.ligature.specs.Ligature.{mayJoin, baseSkips, baseNeeded, looked}
+use Rattle.ligature.specs.Ligature.{mayJoin, baseSkips}
 use Rattle.explaining.specs.declared.Seen.{Seen}
 use Rattle.explaining.specs.declared.Joined.{Joined}
 use Rattle.explaining.specs.declared.Turn.{Turn}
 use Rattle.explaining.specs.declared.Told.{Told}
 use Rattle.explaining.specs.Reason.{skipReason, matchReason}
+use Rattle.ligature.specs.Search.{baseNeeded, looked}
 
 abbrev pub seenOf : Matcher → Sign → ℕ → List ℕ → Glyph → Seen
 seenOf m sign syllable sets g = record {

@@ -2,11 +2,12 @@
 use mathlib.Core.Path.{ap, _∙_}
 use Rattle.glyph.specs.Glyph.{glyphsOf}
 use Rattle.ligature.specs.declared.Ligbase.{Ligbase}
-use Rattle.ligature.specs.Ligature.{mayJoin, baseSkips, maySkip}
+use Rattle.ligature.specs.Ligature.{mayJoin, baseSkips}
 use Rattle.ligature.specs.Laws.{looked-serves}
 use borrow.Author.Needs.{needs}
 use Rattle.explaining.proofs.join.Statement.{statement}
 use Rattle.explaining.proofs.join.Tie as tie
+use Rattle.ligature.specs.Search.{maySkip}
 
 look-for-base-requires : tie.Need-look-for-base-requires
 look-for-base-requires c κs = search needs
