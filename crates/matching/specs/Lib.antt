@@ -10,3 +10,4 @@ pub mod Rising
 pub mod Shift
 pub mod Promises
 pub mod Kept
+pub mod Table
