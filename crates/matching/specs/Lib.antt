@@ -11,3 +11,4 @@ pub mod Shift
 pub mod Promises
 pub mod Kept
 pub mod Table
+pub mod Total
