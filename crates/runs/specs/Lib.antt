@@ -8,3 +8,4 @@ pub mod Tries
 pub mod Promises
 pub mod Chain
 pub mod ChainLaws
+pub mod Over
