@@ -9,3 +9,4 @@ pub mod Promises
 pub mod Chain
 pub mod ChainLaws
 pub mod Over
+pub mod Stops
