@@ -13,8 +13,8 @@ use Rattle.book.specs.Book.{Record, Lookup, Kind1, Kind2, Kind3, Found, Is, Non
 use Rattle.runs.specs.declared.Ending.{Ending}
 use Rattle.runs.specs.declared.Ending.the-variants.{Short, Deep, Full}
 use Rattle.runs.specs.Run.{Run, Stage, Match, Matched, Unmatched, isOver, size, changed, endingAs, when, isAt, multiplied, opened, begun, chainedBy, appliedBy, isDue, arrived, spending, triedBy, dueBy, stepBy, recordsBy, closed, chainRun, lookupRun, runOn}
-use Rattle.runs.specs.Tries.{MetMatch}
 use Rattle.runs.specs.Over.{over-stays}
+use Rattle.runs.specs.Met.{MetMatch}
 
 -- ---- what is met; `atNone` says whether depth 0 is it, and `wide ids x` whether making these ids of a glyph of x is
 
