@@ -13,6 +13,14 @@ use crate::c;
 /// assert_eq!(digest.masks, [1 << 35, 1 << 52, 1 << 8]);
 /// assert!(digest.may_have(4660) && digest.may_have(8756));
 /// assert!(!digest.may_have(4661));
+///
+/// let mut other = SetDigest::new();
+/// other.add_array(&[5, 7]);
+/// assert!(!digest.may_intersect(&other));
+/// digest.union(&other);
+/// assert!(digest.may_intersect(&other) && digest.may_have(7));
+/// digest.clear();
+/// assert_eq!(digest, SetDigest::new());
 /// ```
 #[derive(Clone, Copy, Debug, Default, PartialEq, Eq, Hash)]
 pub struct SetDigest {
@@ -92,6 +100,7 @@ impl SetDigest {
 /// digest.add(65);
 /// assert_eq!(digest.mask, 2);
 /// assert!(digest.may_have(129) && !digest.may_have(66) && !digest.is_full());
+/// assert!(conchibaru::RuleSetDigest::full().is_full());
 /// ```
 #[derive(Clone, Copy, Debug, Default, PartialEq, Eq, Hash)]
 pub struct RuleSetDigest {
