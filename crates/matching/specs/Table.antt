@@ -36,20 +36,20 @@ pub record Tests (b : Bool) (Good Bad : Type 0) : Type 0 where
   pub bad : (b ≡ true) ↔ Bad
 
 -- where refusing is not letting pass
-tests-by : {P : Type 0} (b : Bool) → ((b ≡ false) ↔ P) → Tests b P (P → ⊥)
+pub tests-by : {P : Type 0} (b : Bool) → ((b ≡ false) ↔ P) → Tests b P (P → ⊥)
 tests-by {P} b t = record { good = t; bad = (λ e h. true≢false (sym e ∙ t .1 h), says b t) }
   where
     says : (c : Bool) → ((c ≡ false) ↔ P) → (P → ⊥) → c ≡ true
     says true u n = refl
     says false u n = absurd (n (u .0 refl))
 
-both : {P Q : Type 0} (a b : Bool) → ((a ≡ false) ↔ P) → ((b ≡ false) ↔ Q) → ((a || b) ≡ false) ↔ (P × Q)
+pub both : {P Q : Type 0} (a b : Bool) → ((a ≡ false) ↔ P) → ((b ≡ false) ↔ Q) → ((a || b) ≡ false) ↔ (P × Q)
 both a b p q = (λ e. (p .0 (neither-left a b e), q .0 (neither-right a b e)), λ h. rw (p .1 (h .0), q .1 (h .1)))
 
 at-or-past : (a b : ℕ) → Tests (leb a b) (b < a) (a ≤ b)
 at-or-past a b = record { good = (leb-false a b, lt-leb a b); bad = (leb-true a b, le-leb a b) }
 
-over : (a b : ℕ) → Tests (ltb a b) (b ≤ a) (a < b)
+pub over : (a b : ℕ) → Tests (ltb a b) (b ≤ a) (a < b)
 over a b = record { good = (ltb-false a b, le-ltb a b); bad = (ltb-true a b, lt-ltb a b) }
 
 none : (n : ℕ) → Tests (eqb n 0) (1 ≤ n) (n ≡ 0)
@@ -58,7 +58,7 @@ none n = record { good = (λ e. let z = eqb-false n 0 e in omega arith, λ h. ne
 never : Tests false (Unit {0}) ⊥
 never = record { good = (λ e. tt, λ u. refl); bad = (λ e. true≢false (sym e), λ z. absurd z) }
 
-paired : (sets : List ℕ) → (oddSets sets ≡ false) ↔ (length sets % 2 ≡ 0)
+pub paired : (sets : List ℕ) → (oddSets sets ≡ false) ↔ (length sets % 2 ≡ 0)
 paired sets = (λ e. eqb-true (length sets % 2) 0 (not-false (eqb (length sets % 2) 0) e), λ e. rw (eq-eqb (length sets % 2) 0 e))
 
 module _ (done : List ℕ) (d : ℕ) (coming : List ℕ) (len : ℕ) (sets : List ℕ) where

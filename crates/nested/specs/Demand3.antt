@@ -57,8 +57,8 @@ checkedOf h allowance depth = checkedAll (h .done) (h .coming) (h .place) (h .se
 abbrev pub stageOf : Handed → ℕ → ℕ → Stage
 stageOf h allowance depth = runSays (h .done) (h .coming) (h .place) (h .sets) (h .book) (h .records) (h .match) (h .given) allowance depth
 
--- a call: what the contract says of it. That a row's words have 32 bits no contract says, the type does, before the call and after it; with
--- numbers that aren't words two rows could be the same glyphs
+-- a call: what the contract says of it; and that the words of the rows afterwards have 32 bits, which is no contract's to say but what their type
+-- holds. Without it two rows that differ could be the same glyphs
 pub record Called (h : Handed) (allowance depth : ℕ) (l : Left) : Type 0 where
   pub said : Said (checkedOf h allowance depth) (stageOf h allowance depth) (h .done) (h .coming) (l .done) (l .coming) (l .answer)
   pub done-words : Small (l .done)

@@ -1,16 +1,16 @@
 -- The run's refusals as 01's table has them ("When the desk says no"): each number exactly when its line holds and no line before it does, in the
 -- order 1, 2, 12, 11, 7; and accepted exactly when none holds. Each record here says what its line lets pass: the line holds where that isn't so.
 use mathlib.Core.Path.{_≡_, refl, sym, subst, _∙_}
-use mathlib.Core.Bool.{Bool, true, false, cond, not, _&&_, _||_, true≢false}
+use mathlib.Core.Bool.{Bool, true, false, cond, _&&_, _||_, true≢false}
 use mathlib.Core.List.{List, [], _∷_}
 use mathlib.Core.Logic.{_↔_, _⊎_, inl, inr, ⊎-elim}
 use Prim.Native.Nat.{ℕ, zero, suc, _+_, _-_, _*_, _%_, _≤_, _<_}
 use native.Mathlib.Omega.{arith}
-use borrow.Author.Tests.{le-leb, lt-leb, lt-ltb, le-ltb, eq-eqb, ne-eqb, leb-true, leb-false, ltb-true, ltb-false, eqb-true, not-false}
+use borrow.Author.Tests.{le-leb, lt-leb, lt-ltb, eq-eqb, ne-eqb, leb-true, leb-false, ltb-true, eqb-true, not-false}
 use lib.Dec.{eqb, leb, ltb}
 use lib.ListN.{length, getD, take}
 use lib.Seq.{getD-take}
-use Rattle.bits.specs.Laws.{and-left, and-right, or-left, or-right, neither-left, neither-right}
+use Rattle.bits.specs.Laws.{and-left, and-right, or-left, or-right}
 use Rattle.glyph.specs.Glyph.{words, limit}
 use Rattle.glyph.specs.Sets.{oddSets}
 use Rattle.text.specs.declared.Place.{Place}
@@ -18,6 +18,7 @@ use Rattle.text.specs.Text.{unfit, wrongLength, pastEnd}
 use Rattle.matching.specs.declared.InputAnswer.{InputAnswer}
 use Rattle.matching.specs.declared.InputMatch.{InputMatch}
 use Rattle.matching.specs.Take.{slots}
+use Rattle.matching.specs.Table.{tests-by, both, over, paired}
 use Rattle.book.specs.Book.{Lookup, mostRecords, Reading, Reads, Unreadable, readBook, isRead}
 use Rattle.nested.specs.declared.Refusal.the-variants.{Shape, Cursor, Limits, Book, Match}
 use Rattle.nested.specs.declared.Checked.{Checked}
@@ -71,25 +72,8 @@ pub record Usable (idx : ℕ) (m : InputMatch) : Type 0 where
 
 -- ---- the tests tell the lines
 
--- a test that is false exactly where P holds says true where it doesn't
-must-say : {P : Type 0} (b : Bool) → ((b ≡ false) ↔ P) → (P → ⊥) → b ≡ true
-must-say true tells n = refl
-must-say false tells n = absurd (n (tells .0 refl))
-
-even : (n : ℕ) → (not (eqb (n % 2) 0) ≡ false) ↔ (n % 2 ≡ 0)
-even n = (λ e. eqb-true (n % 2) 0 (not-false (eqb (n % 2) 0) e), λ e. rw (eq-eqb (n % 2) 0 e))
-
 long : (row : List ℕ) → (wrongLength row ≡ false) ↔ (length row ≡ words * limit)
 long row = (λ e. eqb-true (length row) (words * limit) (not-false (eqb (length row) (words * limit)) e), λ e. rw (eq-eqb (length row) (words * limit) e))
-
-either : {P Q : Type 0} (a b : Bool) → ((a ≡ false) ↔ P) → ((b ≡ false) ↔ Q) → ((a || b) ≡ false) ↔ (P × Q)
-either a b p q = (
-  λ e. (p .0 (neither-left a b e), q .0 (neither-right a b e)),
-  λ h. rw (p .1 (h .0), q .1 (h .1)),
-)
-
-over : (a b : ℕ) → (ltb a b ≡ false) ↔ (b ≤ a)
-over a b = (ltb-false a b, le-ltb a b)
 
 module _ (done coming : List ℕ) (p : Place) (sets records : List ℕ) where
   abbrev bad1 : Bool
@@ -97,11 +81,11 @@ module _ (done coming : List ℕ) (p : Place) (sets records : List ℕ) where
 
   shaped : (bad1 ≡ false) ↔ Shaped done coming p sets records
   shaped =
-      let r = either (not (eqb (length records % 2) 0)) (ltb (2 * mostRecords) (length records)) (even (length records)) (over (2 * mostRecords) (length records)) in
-      let o = either (oddSets sets) (badRecords records) (even (length sets)) r in
-      let d = either (ltb limit (p .d)) (ltb (p .idx) (p .d)) (over limit (p .d)) (over (p .idx) (p .d)) in
-      let u = either (wrongLength done) (wrongLength coming || (ltb limit (p .d) || ltb (p .idx) (p .d))) (long done) (either (wrongLength coming) (ltb limit (p .d) || ltb (p .idx) (p .d)) (long coming) d) in
-      let all = either (unfit done coming p) (oddSets sets || badRecords records) u o in (
+      let r = both (oddSets records) (ltb (2 * mostRecords) (length records)) (paired records) (over (2 * mostRecords) (length records) .good) in
+      let o = both (oddSets sets) (badRecords records) (paired sets) r in
+      let d = both (ltb limit (p .d)) (ltb (p .idx) (p .d)) (over limit (p .d) .good) (over (p .idx) (p .d) .good) in
+      let u = both (wrongLength done) (wrongLength coming || (ltb limit (p .d) || ltb (p .idx) (p .d))) (long done) (both (wrongLength coming) (ltb limit (p .d) || ltb (p .idx) (p .d)) (long coming) d) in
+      let all = both (unfit done coming p) (oddSets sets || badRecords records) u o in (
         λ e. let h = all .0 e in record {
           done-long = h .0 .0;
           coming-long = h .0 .1 .0;
@@ -119,7 +103,7 @@ module _ (allowance depth : ℕ) where
   bad12 = ltb mostAllowance allowance || ltb mostDepth depth
 
   limited : (bad12 ≡ false) ↔ Limited allowance depth
-  limited = either (ltb mostAllowance allowance) (ltb mostDepth depth) (over mostAllowance allowance) (over mostDepth depth)
+  limited = both (ltb mostAllowance allowance) (ltb mostDepth depth) (over mostAllowance allowance .good) (over mostDepth depth .good)
 
   beyond : (bad12 ≡ true) ↔ Beyond allowance depth
   beyond = (
@@ -274,7 +258,7 @@ module _ (done coming : List ℕ) (p : Place) (sets book records : List ℕ) (m 
 
   pub refused-1 : (checked ≡ Checked.Refused Shape) ↔ (Shaped done coming p sets records → ⊥)
   unfolding checkedAll checkedFirst
-  refused-1 = (λ e. of (subst Line e line), λ n. rw (must-say bad (shaped done coming p sets records) n))
+  refused-1 = (λ e. of (subst Line e line), λ n. rw (tests-by bad (shaped done coming p sets records) .bad .1 n))
     where
       of : Line (Checked.Refused Shape) → S → ⊥
       of (line-1 n) = n
