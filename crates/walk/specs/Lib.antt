@@ -7,3 +7,4 @@ pub mod Laws
 pub mod Backward
 pub mod Parts
 pub mod Accepted
+pub mod Table
