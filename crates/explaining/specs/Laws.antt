@@ -97,15 +97,15 @@ SkipSays m sets g KeptHidden = (bit 0 (g .flags) ≡ true) × (bit 3 (g .flags) 
 SkipSays m sets g NotIgnorable = bit 0 (g .flags) ≡ false
 
 -- of a choice, whichever it is
-pick : {A : Type 0} (P : A → Type 0) (b : Bool) (x y : A) → (b ≡ true → P x) → (b ≡ false → P y) → P (cond b x y)
+pub pick : {A : Type 0} (P : A → Type 0) (b : Bool) (x y : A) → (b ≡ true → P x) → (b ≡ false → P y) → P (cond b x y)
 pick P true x y t f = t refl
 pick P false x y t f = f refl
 
-not-true : (b : Bool) → not b ≡ true → b ≡ false
+pub not-true : (b : Bool) → not b ≡ true → b ≡ false
 not-true true e = absurd (true≢false (sym e))
 not-true false e = refl
 
-not-false : (b : Bool) → not b ≡ false → b ≡ true
+pub not-false : (b : Bool) → not b ≡ false → b ≡ true
 not-false true e = refl
 not-false false e = absurd (true≢false e)
 

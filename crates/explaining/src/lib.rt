@@ -1,6 +1,7 @@
 // What there is to say of a glyph that input matching meets: what is asked of it, which rule decided, and what came of it.
 // Every answer here is equal to a definition over those of `verdict`, `ligature` and `matching`, so that no wrong reason can be given.
 use glyph::Glyph;
+use ligature::Base;
 use ligature::Ligbase;
 use verdict::Matcher;
 use verdict::MayMatch;
@@ -13,8 +14,11 @@ ghost use mathlib.Core.Bool.{cond};
 ghost use Prim.Native.Nat.{_≤_};
 ghost use lib.ListN.{length};
 ghost use Rattle.glyph.specs.Glyph.{glyphsOf};
+ghost use Rattle.ligature.specs.Ligature.{baseBefore};
+ghost use Rattle.tape.specs.Digits.{isDigit};
 ghost use Rattle.tape.specs.Put.{Puts};
 ghost use Rattle.explaining.specs.Reason.{yesReason, noReason, skipReason, valueReason, matchReason};
+ghost use Rattle.explaining.specs.Fault.{badFrom, faultOf};
 ghost use Rattle.explaining.specs.Told.{seenOf, joinedOf, turnBy, toldOf};
 ghost use Rattle.explaining.specs.Words.{fitting};
 
@@ -85,6 +89,18 @@ pub struct Told {
     pub seen: Seen,
     pub joined: Joined,
     pub turn: Turn,
+}
+
+// What keeps a line from being a frame.
+pub enum LineFault {
+    // More digits than the longest frame has.
+    TooLong,
+    // The place of a byte that is no digit.
+    NotDigit(usize),
+    // An odd number of digits.
+    Odd,
+    // Its digits spell bytes. If it is no frame, then for its opening, settings, counts or length.
+    OtherFault,
 }
 
 // ---- may skip
@@ -197,6 +213,27 @@ pub fn join(first: Glyph, this: Glyph, searched: &[u32], m: Matcher, sets: &[u16
     Joined { base, joins }
 }
 
+// The base of a ligature id as the ligature rule searches for it: back over glyphs, from the last to the first.
+pub fn find_base(row: &[u32], id: u8) -> Base
+    ensures { λ r. ⌜ r ≡ baseBefore id (glyphsOf (now (row .entry))) (length (glyphsOf (now (row .entry)))) ⌝ }
+{
+    let mut j = glyph::count(row);
+    loop {
+        if j == 0 {
+            break Base::Nothing;
+        }
+        j -= 1;
+        let g = glyph::read(row, j);
+        if g.lig == id {
+            if g.comp == 0 {
+                break Base::At(j);
+            }
+        } else {
+            break Base::Nothing;
+        }
+    }
+}
+
 fn taken_if(joins: bool) -> Turn
     ensures { λ r. ⌜ r ≡ cond joins Turn.Taken Turn.Unlike ⌝ }
 {
@@ -230,6 +267,45 @@ pub fn tell(
     let verdict = seen.verdict;
     let turn = turn_of(verdict, joined.joins);
     Told { seen, joined, turn }
+}
+
+// ---- a line that is no frame
+
+fn is_digit(b: u8) -> bool
+    ensures { λ r. ⌜ r ≡ isDigit b ⌝ }
+{
+    ((48 <= b) & (b < 58)) | ((65 <= b) & (b < 71)) | ((97 <= b) & (b < 103))
+}
+
+// The first byte that is no digit; the line's length where there is none.
+fn first_bad(line: &[u8]) -> usize
+    ensures { λ r. ⌜ r ≡ badFrom (now (line .entry)) 0 ⌝ }
+{
+    let mut i = 0;
+    while i < line.len() {
+        if !is_digit(line[i]) {
+            return i;
+        }
+        i += 1;
+    }
+    i
+}
+
+// Why a line that is no frame is none, as far as its digits tell.
+pub fn why_none(line: &[u8]) -> LineFault
+    ensures { λ r. ⌜ r ≡ faultOf (now (line .entry)) ⌝ }
+{
+    if tape::MOST_DIGITS < line.len() {
+        return LineFault::TooLong;
+    }
+    let bad = first_bad(line);
+    if bad < line.len() {
+        return LineFault::NotDigit(bad);
+    }
+    if line.len() % 2 != 0 {
+        return LineFault::Odd;
+    }
+    LineFault::OtherFault
 }
 
 // ---- words
