@@ -1,6 +1,8 @@
 // The head of a frame: what is asked, in words.
 use crate::words;
 use crate::words::ROOM;
+use explaining::LineFault;
+use tape::Head;
 use verdict::Settings;
 use verdict::Table;
 
@@ -20,17 +22,25 @@ fn say_if(text: &mut [u8; ROOM], at: usize, holds: bool, words: &[u8]) -> usize 
     }
 }
 
-pub fn opening(text: &mut [u8; ROOM], line: u64, s: Settings) {
-    let t = s.table;
-    let at = words::say(text, 0, b"line ");
-    let at = words::number(text, at, (line % 4294967296) as u32);
-    let at = words::say(text, at, b": a frame of ");
-    let at = table(text, at, t);
-    let at = words::say(text, at, b", settings:");
-    let at = say_if(text, at, !(s.zwnj | s.zwj | s.syllables), b" none");
+fn settings(text: &mut [u8; ROOM], at: usize, s: Settings) -> usize {
     let at = say_if(text, at, s.zwnj, b" auto-ZWNJ");
     let at = say_if(text, at, s.zwj, b" auto-ZWJ");
     let at = say_if(text, at, s.syllables, b" syllables");
+    say_if(text, at, !(s.zwnj | s.zwj | s.syllables), b" none")
+}
+
+fn line_of(text: &mut [u8; ROOM], line: u64) -> usize {
+    let at = words::say(text, 0, b"line ");
+    words::number(text, at, (line % 4294967296) as u32)
+}
+
+fn opening(text: &mut [u8; ROOM], line: u64, s: Settings) {
+    let t = s.table;
+    let at = line_of(text, line);
+    let at = words::say(text, at, b": a frame of ");
+    let at = table(text, at, t);
+    let at = words::say(text, at, b", settings:");
+    let at = settings(text, at, s);
     words::end(text, at);
 }
 
@@ -44,30 +54,52 @@ fn marks(text: &mut [u8; ROOM], at: usize, props: u32) -> usize {
         let at = words::say(text, at, b" asks attachment class ");
         return words::number(text, at, props / 256 % 256);
     }
-    say_if(text, at, props / 2 % 8 == 0, b" ignores nothing")
+    if props / 2 % 8 == 0 {
+        return words::say(text, at, b" ignores nothing");
+    }
+    words::say(text, at, b" and nothing else")
 }
 
-pub fn lookup(text: &mut [u8; ROOM], props: u32) {
+fn classes(text: &mut [u8; ROOM], at: usize, props: u32) -> usize {
+    let at = say_if(text, at, props / 2 % 2 == 1, b" ignores bases,");
+    let at = say_if(text, at, props / 4 % 2 == 1, b" ignores ligatures,");
+    say_if(text, at, props / 8 % 2 == 1, b" ignores marks,")
+}
+
+fn lookup(text: &mut [u8; ROOM], props: u32) {
     let at = words::say(text, 0, b"props ");
     let at = words::word(text, at, props);
     let at = words::say(text, at, b":");
-    let at = say_if(text, at, props / 2 % 2 == 1, b" ignores bases");
-    let at = say_if(text, at, props / 4 % 2 == 1, b" ignores ligatures");
-    let at = say_if(text, at, props / 8 % 2 == 1, b" ignores marks");
+    let at = classes(text, at, props);
     let at = marks(text, at, props);
     words::end(text, at);
 }
 
-pub fn sizes(text: &mut [u8; ROOM], mask: u32, done: usize, coming: usize, cursor: usize) {
+fn counted(text: &mut [u8; ROOM], at: usize, name: &[u8], n: usize) -> usize {
+    let at = words::say(text, at, name);
+    words::number(text, at, (n % 65536) as u32)
+}
+
+fn sizes(text: &mut [u8; ROOM], mask: u32, done: usize, coming: usize, cursor: usize) {
     let at = words::say(text, 0, b"mask ");
     let at = words::word(text, at, mask);
-    let at = words::say(text, at, b", done ");
-    let at = words::number(text, at, (done % 65536) as u32);
-    let at = words::say(text, at, b", coming ");
-    let at = words::number(text, at, (coming % 65536) as u32);
-    let at = words::say(text, at, b", cursor ");
-    let at = words::number(text, at, (cursor % 65536) as u32);
+    let at = counted(text, at, b", done ", done);
+    let at = counted(text, at, b", coming ", coming);
+    let at = counted(text, at, b", cursor ", cursor);
     words::end(text, at);
+}
+
+pub fn tell(text: &mut [u8; ROOM], line: u64, h: Head) {
+    let s = h.settings;
+    opening(text, line, s);
+    lookup(text, h.props);
+    sizes(
+        text,
+        h.mask,
+        h.done / glyph::WORDS,
+        h.coming / glyph::WORDS,
+        h.cursor,
+    );
 }
 
 fn list(text: &mut [u8; ROOM], from: usize, values: &[u32]) -> usize {
@@ -89,9 +121,22 @@ pub fn values(text: &mut [u8; ROOM], asked: &[u32]) {
     words::end(text, at);
 }
 
-pub fn no_frame(text: &mut [u8; ROOM], line: u64) {
-    let at = words::say(text, 0, b"line ");
-    let at = words::number(text, at, (line % 4294967296) as u32);
-    let at = words::say(text, at, b": not a frame");
+fn fault(text: &mut [u8; ROOM], at: usize, why: LineFault) -> usize {
+    match why {
+        LineFault::TooLong => words::say(text, at, b"more digits than the longest frame has"),
+        LineFault::NotDigit(i) => counted(text, at, b"no digit stands at place ", i),
+        LineFault::Odd => words::say(text, at, b"an odd number of digits"),
+        LineFault::OtherFault => words::say(
+            text,
+            at,
+            b"by its opening, settings, counts or length",
+        ),
+    }
+}
+
+pub fn no_frame(text: &mut [u8; ROOM], line: u64, why: LineFault) {
+    let at = line_of(text, line);
+    let at = words::say(text, at, b": not a frame: ");
+    let at = fault(text, at, why);
     words::end(text, at);
 }

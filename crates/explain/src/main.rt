@@ -7,10 +7,12 @@ mod rows;
 mod words;
 
 use crate::words::ROOM;
-use explaining::Told;
+use explaining::Joined;
 use explaining::Turn;
 use glyph::Glyph;
 use libc::STDIN_FILENO;
+use ligature::Base;
+use ligature::Ligbase;
 use matching::InputAnswer;
 use matching::Lookup;
 use tape::Decoded;
@@ -34,6 +36,52 @@ pub struct Turns {
 
 // ---- a frame
 
+// The base that was searched for.
+fn tell_base(line: &mut [u8; ROOM], searched: &[u32], id: u8, m: Matcher) {
+    match explaining::find_base(searched, id) {
+        Base::At(j) => {
+            let sets = [0u16; 0];
+            let g = glyph::read(searched, j);
+            let s = verdict::may_skip(m, &sets, g);
+            let why = explaining::why_skip(m, &sets, g);
+            rows::base(line, j, g, s, why, m.props);
+        }
+        Base::Nothing => rows::no_base(line),
+    }
+}
+
+// What the ligature rule looked at, where it searched for a base or refused the glyph.
+fn tell_joined(
+    line: &mut [u8; ROOM],
+    searched: &[u32],
+    first: Glyph,
+    this: Glyph,
+    m: Matcher,
+    j: Joined,
+) {
+    let base = j.base;
+    match base {
+        Ligbase::NotChecked => {
+            if !j.joins {
+                rows::compared(line, first, this);
+                rows::unlike(line);
+            }
+        }
+        Ligbase::MayNotSkip | Ligbase::MaySkip => {
+            rows::compared(line, first, this);
+            tell_base(line, searched, first.lig, m);
+        }
+    }
+}
+
+// The ligature rule is asked of glyphs that match.
+fn is_match(turn: Turn) -> bool {
+    match turn {
+        Turn::Passed | Turn::Stopped => false,
+        Turn::Taken | Turn::Unlike => true,
+    }
+}
+
 // The glyph at a place, for the value that is due.
 fn tell_place(
     line: &mut [u8; ROOM],
@@ -55,20 +103,12 @@ fn tell_place(
     let told = explaining::tell(m, &sets, sign, first, this, searched);
     let seen = told.seen;
     let turn = told.turn;
-    rows::tested(line, p, this, due, seen, turn, m.props);
-    tell_joined(line, first, this, told);
-    turn
-}
-
-// The ligature rule is asked of glyphs that match.
-fn tell_joined(line: &mut [u8; ROOM], first: Glyph, this: Glyph, told: Told) {
-    let turn = told.turn;
     let joined = told.joined;
-    let base = joined.base;
-    match turn {
-        Turn::Passed | Turn::Stopped => {}
-        Turn::Taken | Turn::Unlike => rows::joined(line, first, this, base, joined.joins),
+    rows::tested(line, p, this, due, seen, turn, m.props);
+    if is_match(turn) {
+        tell_joined(line, searched, first, this, m, joined);
     }
+    turn
 }
 
 fn is_over(turn: Turn) -> bool {
@@ -132,8 +172,15 @@ fn searched_words(table: Table, done: usize) -> usize
     }
 }
 
-// The rows of a frame that isn't refused, and its answer.
-fn tell_match(
+fn is_refused(answer: InputAnswer) -> bool {
+    match answer {
+        InputAnswer::Refused(_) => true,
+        InputAnswer::Matched { end: _, total: _ } | InputAnswer::Lost(_) | InputAnswer::Ligature =>
+            { false }
+    }
+}
+
+fn tell_rows_of(
     line: &mut [u8; ROOM],
     before: &[u32],
     text: &[u32],
@@ -143,6 +190,20 @@ fn tell_match(
 ) {
     let settings = lookup.settings;
     let table = settings.table;
+    let m = verdict::matcher_of(settings, false, lookup.mask, lookup.props);
+    let n = searched_words(table, before.len());
+    tell_rows(line, &before[0..n], text, idx, m, values);
+}
+
+// The rows of a frame that isn't refused, and its answer.
+fn tell_match(
+    line: &mut [u8; ROOM],
+    before: &[u32],
+    text: &[u32],
+    idx: usize,
+    lookup: Lookup,
+    values: &[u32],
+) {
     let sets = [0u16; 0];
     let d = glyph::count(before);
     let len = glyph::count(text);
@@ -158,12 +219,8 @@ fn tell_match(
         values,
     );
     let said = found.answer;
-    let m = verdict::matcher_of(settings, false, lookup.mask, lookup.props);
-    let n = searched_words(table, before.len());
-    match said {
-        InputAnswer::Refused(_) => {}
-        InputAnswer::Matched { end: _, total: _ } | InputAnswer::Lost(_) | InputAnswer::Ligature =>
-            { tell_rows(line, &before[0..n], text, idx, m, values) }
+    if !is_refused(said) {
+        tell_rows_of(line, before, text, idx, lookup, values);
     }
     answer::in_words(line, found);
 }
@@ -190,9 +247,7 @@ fn tell_frame(
     let asked = &values[..];
     let before = &done[..];
     let text = &coming[..];
-    head::opening(line, lines, settings);
-    head::lookup(line, h.props);
-    head::sizes(line, h.mask, d / glyph::WORDS, c / glyph::WORDS, h.cursor);
+    head::tell(line, lines, h);
     head::values(line, &asked[0..n]);
     tell_match(
         line,
@@ -221,7 +276,7 @@ fn tell_line(frame: &[u8], lines: u64) {
     let mut done = [0u32; tape::ROW];
     let mut coming = [0u32; tape::ROW];
     match tape::decode(frame, &mut values, &mut done, &mut coming) {
-        Decoded::NoFrame => head::no_frame(&mut text, lines),
+        Decoded::NoFrame => head::no_frame(&mut text, lines, explaining::why_none(frame)),
         Decoded::Frame(h) => tell_frame(&mut text, lines, h, &values, &done, &coming),
     }
     tell_answer(frame, &mut text);

@@ -6,7 +6,6 @@ use explaining::Seen;
 use explaining::SkipReason;
 use explaining::Turn;
 use glyph::Glyph;
-use ligature::Ligbase;
 use verdict::MayMatch;
 use verdict::MaySkip;
 
@@ -195,45 +194,49 @@ fn of_ligature(text: &mut [u8; ROOM], at: usize, g: Glyph) -> usize {
     words::number(text, at, g.comp as u32)
 }
 
-fn search(text: &mut [u8; ROOM], at: usize, base: Ligbase) -> usize {
-    match base {
-        Ligbase::NotChecked => words::say(text, at, b"done isn't searched for ligature "),
-        Ligbase::MayNotSkip => words::say(
-            text,
-            at,
-            b"done has no base that is skip Yes for ligature ",
-        ),
-        Ligbase::MaySkip => words::say(
-            text,
-            at,
-            b"done has a base, which is skip Yes, for ligature ",
-        ),
-    }
-}
-
-fn compared(text: &mut [u8; ROOM], first: Glyph, this: Glyph, base: Ligbase) {
+// The two glyphs that the ligature rule compares.
+pub fn compared(text: &mut [u8; ROOM], first: Glyph, this: Glyph) {
     let at = words::pad(text, 0, CLASS);
-    let at = words::say(text, at, b"ligature/component: the cursor glyph has ");
+    let at = words::say(text, at, b"ligature/component: cursor glyph ");
     let at = of_ligature(text, at, first);
-    let at = words::say(text, at, b", this one ");
+    let at = words::say(text, at, b", this glyph ");
     let at = of_ligature(text, at, this);
     words::end(text, at);
+}
+
+pub fn unlike(text: &mut [u8; ROOM]) {
     let at = words::pad(text, 0, CLASS);
-    let at = search(text, at, base);
-    let at = words::number(text, at, first.lig as u32);
+    let at = words::say(text, at, b"the cursor glyph isn't of that ligature");
     words::end(text, at);
 }
 
-// What the ligature rule looked at, where it searched for a base or refused the glyph.
-pub fn joined(text: &mut [u8; ROOM], first: Glyph, this: Glyph, base: Ligbase, joins: bool) {
-    match base {
-        Ligbase::NotChecked => {
-            if !joins {
-                compared(text, first, this, base);
-            }
-        }
-        Ligbase::MayNotSkip | Ligbase::MaySkip => compared(text, first, this, base),
-    }
+pub fn no_base(text: &mut [u8; ROOM]) {
+    let at = words::pad(text, 0, CLASS);
+    let at = words::say(
+        text,
+        at,
+        b"no base is found in done; under GPOS it isn't searched",
+    );
+    words::end(text, at);
+}
+
+// The base that the ligature rule found in `done`, and whether it may be skipped.
+pub fn base(
+    text: &mut [u8; ROOM],
+    place: usize,
+    g: Glyph,
+    s: MaySkip,
+    why: SkipReason,
+    asked: u32,
+) {
+    let at = words::pad(text, 0, CLASS);
+    let at = words::say(text, at, b"base at place ");
+    let at = words::number(text, at, (place % 65536) as u32);
+    let at = words::say(text, at, b" of done: skip ");
+    let at = skip(text, at, s);
+    let at = words::say(text, at, b", ");
+    let at = why_skip(text, at, why, asked, g.props);
+    words::end(text, at);
 }
 
 pub fn ran_out(text: &mut [u8; ROOM], due: u32) {

@@ -12,6 +12,9 @@ decode-requires c κs = search needs
 enum-told : tie.Need-enum-told
 enum-told c = search needs
 
+why-none-requires : tie.Need-why-none-requires
+why-none-requires c κs = search needs
+
 no-frame-requires : tie.Need-no-frame-requires
 no-frame-requires c κs = search needs
 
@@ -37,6 +40,7 @@ tell-line-spec =
     (tie.spec
     decode-requires
     enum-told
+    why-none-requires
     no-frame-requires
     enum-known-h
     tell-frame-requires
