@@ -5,7 +5,7 @@ use libc::STDOUT_FILENO;
 use tape::Taken;
 ghost use Prim.Native.Nat.{_+_, _≤_};
 ghost use Rattle.tape.specs.Line.{mostAnswer};
-ghost use Rattle.tape.specs.Tape.{mostKept};
+ghost use Rattle.tape.specs.Feeding.{mostKept};
 
 // Answers that are gathered before they are written.
 const GATHERED: usize = 65536;

@@ -2,7 +2,7 @@
 use crate::words;
 use crate::words::ROOM;
 use explaining::LineFault;
-use tape::Head;
+use frame::Head;
 use verdict::Settings;
 use verdict::Table;
 

@@ -1,6 +1,6 @@
 // What a frame of the bench tape was answered, and why: on standard input frames, a line each; on standard output what the
 // matcher saw of each glyph, in words, and the tape's answer. What is said comes from proved functions: `explaining` for the reasons,
-// `matching` and `tape` for the answer.
+// `frame`, `matching` and `tape` for the answer.
 mod answer;
 mod head;
 mod rows;
@@ -9,14 +9,14 @@ mod words;
 use crate::words::ROOM;
 use explaining::Joined;
 use explaining::Turn;
+use frame::Decoded;
+use frame::Head;
 use glyph::Glyph;
 use libc::STDIN_FILENO;
 use ligature::Base;
 use ligature::Ligbase;
 use matching::InputAnswer;
 use matching::Lookup;
-use tape::Decoded;
-use tape::Head;
 use verdict::Matcher;
 use verdict::Sign;
 use verdict::Table;
@@ -24,8 +24,8 @@ use verdict::Test;
 ghost use Prim.Native.Nat.{_+_, _≤_, _<_};
 ghost use lib.ListN.{length};
 ghost use Rattle.glyph.specs.Glyph.{glyphsOf};
-ghost use Rattle.tape.specs.FrameLaws.{Bounded};
-ghost use Rattle.tape.specs.Tape.{mostKept};
+ghost use Rattle.frame.specs.Decoding.{Bounded};
+ghost use Rattle.tape.specs.Feeding.{mostKept};
 
 // What is kept from read to read: the bytes of the line so far, and the number of lines before it.
 pub struct Turns {
@@ -229,9 +229,9 @@ fn tell_frame(
     line: &mut [u8; ROOM],
     lines: u64,
     h: Head,
-    values: &[u32; tape::MOST_VALUES],
-    done: &[u32; tape::ROW],
-    coming: &[u32; tape::ROW],
+    values: &[u32; frame::MOST_VALUES],
+    done: &[u32; frame::ROW],
+    coming: &[u32; frame::ROW],
 )
     requires { ⌜ Bounded h ⌝ }
 {
@@ -272,10 +272,10 @@ fn tell_answer(frame: &[u8], text: &mut [u8; ROOM]) {
 
 fn tell_line(frame: &[u8], lines: u64) {
     let mut text = [0u8; ROOM];
-    let mut values = [0u32; tape::MOST_VALUES];
-    let mut done = [0u32; tape::ROW];
-    let mut coming = [0u32; tape::ROW];
-    match tape::decode(frame, &mut values, &mut done, &mut coming) {
+    let mut values = [0u32; frame::MOST_VALUES];
+    let mut done = [0u32; frame::ROW];
+    let mut coming = [0u32; frame::ROW];
+    match frame::decode(frame, &mut values, &mut done, &mut coming) {
         Decoded::NoFrame => head::no_frame(&mut text, lines, explaining::why_none(frame)),
         Decoded::Frame(h) => tell_frame(&mut text, lines, h, &values, &done, &coming),
     }

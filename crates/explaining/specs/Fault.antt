@@ -11,10 +11,10 @@ use lib.Seq.{drop-cons}
 use borrow.Author.Tests.{ltb-true, ltb-false, eqb-true, eq-eqb}
 use Rattle.bits.specs.Bits.{every}
 use Rattle.bits.specs.Laws.{every-at}
-use Rattle.tape.specs.Digits.{noDigit, digit, isDigit, spells}
-use Rattle.tape.specs.DigitLaws.{spells-odd}
-use Rattle.tape.specs.Frame.{none, frameOf}
-use Rattle.tape.specs.FrameLaws.{mostDigits, long-none}
+use Rattle.frame.specs.Digits.{noDigit, digit, isDigit, spells}
+use Rattle.frame.specs.DigitLaws.{spells-odd}
+use Rattle.frame.specs.Frame.{none, frameOf, mostDigits}
+use Rattle.frame.specs.FrameLaws.{long-none}
 use Rattle.explaining.specs.Laws.{pick}
 use Rattle.explaining.specs.declared.LineFault.{LineFault}
 use Rattle.explaining.specs.declared.LineFault.the-variants.{TooLong, NotDigit, Odd, OtherFault}

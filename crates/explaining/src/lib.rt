@@ -15,8 +15,8 @@ ghost use Prim.Native.Nat.{_≤_};
 ghost use lib.ListN.{length};
 ghost use Rattle.glyph.specs.Glyph.{glyphsOf};
 ghost use Rattle.ligature.specs.Ligature.{baseBefore};
-ghost use Rattle.tape.specs.Digits.{isDigit};
-ghost use Rattle.tape.specs.Put.{Puts};
+ghost use Rattle.frame.specs.Digits.{isDigit};
+ghost use Rattle.frame.specs.Put.{Puts};
 ghost use Rattle.explaining.specs.Reason.{yesReason, noReason, skipReason, valueReason, matchReason};
 ghost use Rattle.explaining.specs.Fault.{badFrom, faultOf};
 ghost use Rattle.explaining.specs.Told.{seenOf, joinedOf, turnBy, toldOf};
@@ -295,7 +295,7 @@ fn first_bad(line: &[u8]) -> usize
 pub fn why_none(line: &[u8]) -> LineFault
     ensures { λ r. ⌜ r ≡ faultOf (now (line .entry)) ⌝ }
 {
-    if tape::MOST_DIGITS < line.len() {
+    if frame::MOST_DIGITS < line.len() {
         return LineFault::TooLong;
     }
     let bad = first_bad(line);

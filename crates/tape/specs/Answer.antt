@@ -8,8 +8,7 @@ use Rattle.matching.specs.declared.Lookup.{Lookup}
 use Rattle.matching.specs.declared.InputMatch.{InputMatch}
 use Rattle.matching.specs.Answers.{inputReply}
 use Rattle.matching.specs.Calls.{inputOf}
-use Rattle.tape.specs.declared.Head.{Head}
-use Rattle.tape.specs.Frame.{Frame, Reading, that, none, frameOf}
+use Rattle.frame.specs.Frame.{Frame, Reading, that, none, frameOf}
 use Rattle.tape.specs.Line.{answerBytes, noFrame, ended}
 
 abbrev pub lookupOf : Frame → Lookup
@@ -19,12 +18,6 @@ lookupOf f = record { settings = f .settings; mask = f .mask; props = f .props }
 unfoldable pub matchOf : Frame → InputMatch
 matchOf f =
     inputOf (f .done) (length (f .done) / words) (f .coming) (length (f .coming) / words) (f .cursor) (lookupOf f) [] Test.Equal (f .values)
-
--- the same, of a frame's numbers and its lists
-unfoldable pub asked : Head → List ℕ → List ℕ → List ℕ → InputMatch
-asked h values done coming =
-    inputOf done (h .done / words) coming (h .coming / words) (h .cursor)
-    (record { settings = h .settings; mask = h .mask; props = h .props }) [] Test.Equal values
 
 abbrev pub answerTo : Reading → List ℕ
 answerTo (that f) = answerBytes (inputReply (matchOf f))

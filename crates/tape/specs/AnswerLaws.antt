@@ -12,13 +12,16 @@ use Rattle.matching.specs.declared.InputMatch.{InputMatch}
 use Rattle.matching.specs.Answers.{refusalNumber, inputReply}
 use Rattle.matching.specs.Take.{slots}
 use Rattle.glyph.specs.Glyph.{words}
-use Rattle.tape.specs.declared.Head.{Head}
-use Rattle.tape.specs.declared.Decoded.{Decoded}
-use Rattle.tape.specs.Answer.{asked, matchOf, answerLine}
-use Rattle.tape.specs.Frame.{Frame, mostValues, mostRecords, Reading, that, none, frameOf, headOf, decoded, valuesOf, doneOf, comingOf, Decodes}
-use Rattle.tape.specs.FrameLaws.{Bounded, frame-bounded}
-use Rattle.tape.specs.Line.{half, halves, matchedBytes, answerBytes, ended}
-use Rattle.tape.specs.Put.{put, front-put}
+use Rattle.frame.specs.declared.Head.{Head}
+use Rattle.frame.specs.declared.Decoded.{Decoded}
+use Rattle.tape.specs.Answer.{matchOf, answerLine}
+use Rattle.tape.specs.Asking.{asked}
+use Rattle.frame.specs.Frame.{mostValues, mostRecords, Reading, frameOf}
+use Rattle.frame.specs.Decoding.{valuesOf, doneOf, comingOf, Decodes}
+use Rattle.frame.specs.DecodingLaws.{Told, told-bounded}
+use Rattle.frame.specs.Line.{half}
+use Rattle.tape.specs.Line.{halves, matchedBytes, answerBytes, ended}
+use Rattle.frame.specs.Put.{put, front-put}
 
 pub le-or-lt : (a b : ℕ) → (a ≤ b) ⊎ (b < a)
 le-or-lt zero b = inl zero-le
@@ -60,25 +63,9 @@ module _ (m : InputMatch) where
   unfolding answerBytes halves
   reply-ligature e = rw e
 
--- ---- what is known of a line by what it was decoded to
-
-pub none-told : (r : Reading) → Decoded.NoFrame ≡ decoded r → r ≡ none
-none-told (that f) e = let z : _≡_ {A = ℕ} 0 1 = cc in absurd (omega arith)
-none-told none e = refl
-
-pub record Told (r : Reading) (h : Head) : Type 0 where
-  pub frame : Frame
-  pub is : r ≡ that frame
-  pub head : h ≡ headOf frame
-
-pub frame-told : (r : Reading) (h : Head) → Decoded.Frame h ≡ decoded r → Told r h
-frame-told (that f) h e = record { frame = f; is = refl; head = cc }
-frame-told none h e = let z : _≡_ {A = ℕ} 0 1 = cc in absurd (omega arith)
+-- ---- the answer to a line by what it was decoded to
 
 module _ (l : List ℕ) (h : Head) (t : Told (frameOf l) h) where
-  pub told-bounded : Bounded h
-  told-bounded = rw (t .head) (frame-bounded l (t .frame) (t .is))
-
   -- a list that was stored at the front of a slice with room for it
   stored : (v v′ s : List ℕ) (n : ℕ) → v′ ≡ put v 0 s → n ≡ length s → n ≤ length v → take n v′ ≡ s
   stored v v′ s n e k m = ap (take n) e ∙ front-put v s n (sym k) (omega arith)
@@ -90,7 +77,7 @@ module _ (l : List ℕ) (h : Head) (t : Told (frameOf l) h) where
   unfolding answerLine asked matchOf
   told-answer a v v′ d d′ c c′ s lv ld lc =
       let f = t .frame in
-      let b = told-bounded in
+      let b = told-bounded l h t in
       let nv : h .values ≡ length (f .values) = ap (λ (x : Head). x .values) (t .head) in
       let nd : h .done ≡ length (f .done) = ap (λ (x : Head). x .done) (t .head) in
       let nc : h .coming ≡ length (f .coming) = ap (λ (x : Head). x .coming) (t .head) in

@@ -1,15 +1,9 @@
-pub mod Digits
-pub mod DigitLaws
-pub mod Frame
-pub mod FrameLaws
 pub mod Line
 pub mod LineLaws
 pub mod Answer
+pub mod Asking
 pub mod AnswerLaws
 pub mod Tape
+pub mod Feeding
 pub mod TapeLaws
 pub mod Pieces
-pub mod Bytes
-pub mod Back
-pub mod Forth
-pub mod Put

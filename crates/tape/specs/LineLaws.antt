@@ -6,7 +6,8 @@ use native.Mathlib.Omega.{arith}
 use native.Mathlib.Numerals.{add-one}
 use lib.ListN.{length, getD, take, drop, drop-of-length-le}
 use lib.Seq.{drop-cons, getD-take, length-take-le}
-use Rattle.tape.specs.Line.{digitsOf, half, halves, mostAnswer, ended}
+use Rattle.frame.specs.Line.{digitsOf, half}
+use Rattle.tape.specs.Line.{halves, mostAnswer, ended}
 
 module _ (l : List ℕ) (n i : ℕ) where
   pub halves-step : i < n → n ≤ length l

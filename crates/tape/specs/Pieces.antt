@@ -12,10 +12,11 @@ use lib.ListN.{length, take, length-append}
 use lib.Seq.{take-all, take-append-le, length-take-le}
 use Rattle.tape.specs.Answer.{answerTo, answerLine}
 use Rattle.tape.specs.AnswerLaws.{le-or-lt}
-use Rattle.tape.specs.Frame.{Reading, frameOf}
-use Rattle.tape.specs.FrameLaws.{long-none}
+use Rattle.frame.specs.Frame.{Reading, frameOf}
+use Rattle.frame.specs.FrameLaws.{long-none}
 use Rattle.tape.specs.Line.{newline, ended}
-use Rattle.tape.specs.Tape.{lastAnswer, answersFrom, tapeOf, mostKept, longer, lineAfter, answerAt, lineLeft, answersIn}
+use Rattle.tape.specs.Tape.{lastAnswer, answersFrom, tapeOf}
+use Rattle.tape.specs.Feeding.{mostKept, longer, lineAfter, answerAt, lineLeft, answersIn}
 
 -- ---- one piece after another
 

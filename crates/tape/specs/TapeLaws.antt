@@ -8,7 +8,7 @@ use lib.ListN.{length, getD, drop}
 use lib.Seq.{drop-cons}
 use Rattle.tape.specs.Answer.{answerLine}
 use Rattle.tape.specs.Line.{newline}
-use Rattle.tape.specs.Tape.{mostKept, lineAfter, answerAt, lineLeft, answersIn, Feeds}
+use Rattle.tape.specs.Feeding.{mostKept, lineAfter, answerAt, lineLeft, answersIn, Feeds}
 
 module _ (l : List ℕ) (b : ℕ) where
   pub after-newline : b ≡ newline → lineAfter l b ≡ []

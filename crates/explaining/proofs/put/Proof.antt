@@ -4,7 +4,7 @@ use mathlib.Core.Path.{_≡_, refl, sym, ap, _∙_}
 use mathlib.Core.List.{List, [], _∷_}
 use native.Mathlib.Omega.{arith}
 use lib.ListN.{length, getD, take, drop, length-set, length-take}
-use Rattle.tape.specs.Put.{put, Puts, put-none, put-cons}
+use Rattle.frame.specs.Put.{put, Puts, put-none, put-cons}
 use Rattle.explaining.specs.Words.{fitting, left-on, left-full, left-none}
 use borrow.Author.Needs.{needs}
 use Rattle.explaining.proofs.put.Statement.{statement}

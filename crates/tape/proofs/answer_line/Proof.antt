@@ -5,8 +5,9 @@ use Prim.Native.Nat.{_*_}
 use Rattle.glyph.specs.Glyph.{words}
 use Rattle.tape.specs.LineLaws.{number-fits}
 use Rattle.tape.specs.Answer.{answerLine}
-use Rattle.tape.specs.AnswerLaws.{none-told, frame-told, told-bounded, told-answer}
-use Rattle.tape.specs.Frame.{mostValues, mostRecords, frameOf}
+use Rattle.frame.specs.DecodingLaws.{none-told, frame-told, told-bounded}
+use Rattle.tape.specs.AnswerLaws.{told-answer}
+use Rattle.frame.specs.Frame.{mostValues, mostRecords, frameOf}
 use borrow.Author.Needs.{needs}
 use Rattle.tape.proofs.answer_line.Statement.{statement}
 use Rattle.tape.proofs.answer_line.Tie as tie

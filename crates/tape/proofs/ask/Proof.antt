@@ -2,7 +2,7 @@
 use Prim.Native.Nat.{_-_}
 use mathlib.Core.Path.{_≡_}
 use native.Mathlib.Omega.{arith}
-use Rattle.tape.specs.Answer.{asked}
+use Rattle.tape.specs.Asking.{asked}
 use borrow.Author.Needs.{needs}
 use Rattle.tape.proofs.ask.Statement.{statement}
 use Rattle.tape.proofs.ask.Tie as tie

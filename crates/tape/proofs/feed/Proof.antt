@@ -5,7 +5,7 @@ use mathlib.Core.Logic.{_⊎_, inl, inr, ⊎-elim}
 use native.Mathlib.Omega.{arith}
 use lib.ListN.{length, take}
 use Rattle.tape.specs.Line.{mostAnswer}
-use Rattle.tape.specs.Tape.{mostKept, Feeds}
+use Rattle.tape.specs.Feeding.{mostKept, Feeds}
 use Rattle.tape.specs.TapeLaws.{feeds-on}
 use borrow.Author.Needs.{needs}
 use Rattle.tape.proofs.feed.Statement.{statement}

@@ -2,8 +2,8 @@
 use Prim.Native.Nat.{_/_, _%_}
 use native.Mathlib.Omega.{arith}
 use lib.ListN.{length-set}
-use Rattle.tape.specs.Line.{capital, digitsOf}
-use Rattle.tape.specs.Put.{put-two}
+use Rattle.frame.specs.Line.{capital, digitsOf}
+use Rattle.frame.specs.Put.{put-two}
 use borrow.Author.Needs.{needs}
 use Rattle.tape.proofs.put_byte.Statement.{statement}
 use Rattle.tape.proofs.put_byte.Tie as tie

@@ -4,9 +4,10 @@ use mathlib.Core.Path.{_≡_, refl}
 use mathlib.Core.List.{[], _∷_, _++_}
 use native.Mathlib.Omega.{arith}
 use lib.ListN.{length, take, length-append}
-use Rattle.tape.specs.Line.{digitsOf, newline, half, halves, matchedBytes, ended}
+use Rattle.frame.specs.Line.{digitsOf, half}
+use Rattle.tape.specs.Line.{newline, halves, matchedBytes, ended}
 use Rattle.tape.specs.LineLaws.{length-halves}
-use Rattle.tape.specs.Put.{put-then}
+use Rattle.frame.specs.Put.{put-then}
 use borrow.Author.Needs.{needs}
 use Rattle.tape.proofs.put_matched.Statement.{statement}
 use Rattle.tape.proofs.put_matched.Tie as tie

@@ -2,7 +2,7 @@
 use mathlib.Core.Path.{refl}
 use native.Mathlib.Omega.{arith}
 use Rattle.tape.specs.Line.{newline}
-use Rattle.tape.specs.Put.{put-one}
+use Rattle.frame.specs.Put.{put-one}
 use borrow.Author.Needs.{needs}
 use Rattle.tape.proofs.put_newline.Statement.{statement}
 use Rattle.tape.proofs.put_newline.Tie as tie

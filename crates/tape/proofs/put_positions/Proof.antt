@@ -3,9 +3,10 @@ use Prim.Native.Nat.{_+_, _-_, _*_, _≤_}
 use mathlib.Core.Path.{_≡_, refl, sym, ap, _∙_}
 use native.Mathlib.Omega.{arith}
 use lib.ListN.{length, getD, take, drop}
-use Rattle.tape.specs.Line.{digitsOf, half, halves}
+use Rattle.frame.specs.Line.{digitsOf, half}
+use Rattle.tape.specs.Line.{halves}
 use Rattle.tape.specs.LineLaws.{halves-step, halves-end}
-use Rattle.tape.specs.Put.{put, put-none, put-then}
+use Rattle.frame.specs.Put.{put, put-none, put-then}
 use borrow.Author.Needs.{needs}
 use Rattle.tape.proofs.put_positions.Statement.{statement}
 use Rattle.tape.proofs.put_positions.Tie as tie

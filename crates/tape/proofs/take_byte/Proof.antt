@@ -8,7 +8,7 @@ use lib.ListN.{length, take}
 use lib.Seq.{take-suc-set, length-take-le}
 use Rattle.tape.specs.Answer.{answerLine}
 use Rattle.tape.specs.Line.{newline}
-use Rattle.tape.specs.Put.{Puts, take-put}
+use Rattle.frame.specs.Put.{Puts, take-put}
 use Rattle.tape.specs.TapeLaws.{after-newline, answer-newline, after-kept, after-full, answer-other}
 use borrow.Author.Needs.{needs}
 use Rattle.tape.proofs.take_byte.Statement.{statement}

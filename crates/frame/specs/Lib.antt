@@ -1,0 +1,11 @@
+pub mod Digits
+pub mod DigitLaws
+pub mod Frame
+pub mod FrameLaws
+pub mod Line
+pub mod Decoding
+pub mod DecodingLaws
+pub mod Bytes
+pub mod Back
+pub mod Forth
+pub mod Put
