@@ -14,6 +14,7 @@ use Rattle.text.specs.Laws.{sizes}
 use Rattle.matching.specs.Take.{slots}
 use Rattle.book.specs.Book.{Reading, recordsOf, isRead, lookupsOf}
 use Rattle.book.specs.Places.{indexOf}
+use Rattle.book.specs.Starts.{index-reads}
 use Rattle.runs.specs.declared.Given.{Given}
 use Rattle.runs.specs.Repair.{Level, Rises, Sound}
 use Rattle.runs.specs.Run.{begun, fromDone, movedLevel}
@@ -24,7 +25,7 @@ use Rattle.runs.specs.Promises.{run-good}
 use Rattle.nested.specs.declared.Checked.{Checked}
 use Rattle.nested.specs.Cycle.{book-fair}
 use Rattle.nested.specs.Calls.{Said, Whole}
-use Rattle.nested.specs.CallLaws.{places-show, moved-rise, index-reads, index-is}
+use Rattle.nested.specs.CallLaws.{places-show, moved-rise, index-is}
 use Rattle.nested.specs.Table.{Shaped, Readable, Usable, placesOf, good-by, accepted}
 use Rattle.nested.specs.Demand3.{Handed, Left, Called, checkedOf, stageOf}
 use Rattle.matching.specs.Answers.{endOf}
