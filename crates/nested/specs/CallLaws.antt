@@ -36,9 +36,9 @@ use Rattle.nested.specs.declared.Refusal.the-variants.{Shape, Cursor, Li
 use Rattle.nested.specs.declared.RunEnding.{RunEnding}
 use Rattle.nested.specs.declared.RunAnswer.{RunAnswer}
 use Rattle.nested.specs.declared.Checked.{Checked}
-use Rattle.nested.specs.declared.Closed.{Closed}
+use Rattle.chains.specs.declared.Closed.{Closed}
 use Rattle.steps.specs.State.{Ran}
-use Rattle.nested.specs.Levels.{Indexed, Chained}
+use Rattle.chains.specs.Levels.{Indexed, Chained}
 use Rattle.nested.specs.Calls.{badRecords, checkedFirst, checkedPlaces, checkedMatch, checkedBook, checkedAll, then, risesTo, goodPlaces, refusedBy, Whole, Said}
 
 -- ---- places that rise, one a turn
@@ -214,9 +214,6 @@ module _ (idx end total count : ℕ) (places : List ℕ) (a : InputAnswer) (is :
   end-is = ap endOf (sym is)
 
 -- ---- the first level
-
-pub level-neat : (lv : Slots) (L : Level) → lv ≡ shown L → Neat lv
-level-neat lv L e = rw e (shown-neat L)
 
 pub level-sound : (n : ℕ) (lv : Slots) (L : Level) → lv ≡ shown L → Sound 0 n L → Sound 0 n (levelOf lv)
 level-sound n lv L e s = rw (e, level-shown L) s

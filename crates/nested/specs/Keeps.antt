@@ -23,7 +23,7 @@ use Rattle.runs.specs.Kept.{Fair, Good}
 use Rattle.runs.specs.Chain.{chainMatch}
 use Rattle.runs.specs.Promises.{run-good}
 use Rattle.nested.specs.declared.Checked.{Checked}
-use Rattle.nested.specs.Cycle.{book-fair}
+use Rattle.chains.specs.Cycle.{book-fair}
 use Rattle.nested.specs.Calls.{Said, Whole}
 use Rattle.nested.specs.CallLaws.{places-show, moved-rise, index-is}
 use Rattle.nested.specs.Table.{Shaped, Readable, Usable, placesOf, good-by, accepted}

@@ -1,6 +1,3 @@
-pub mod Levels
-pub mod Cycle
-pub mod Turns
 pub mod Calls
 pub mod CallLaws
 pub mod Decided

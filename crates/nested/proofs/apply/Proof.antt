@@ -6,9 +6,10 @@ use Rattle.text.specs.Text.{textOf}
 use Rattle.book.specs.Book.{recordsOf, lookupsOf}
 use Rattle.runs.specs.Run.{begun, chainRun, movedLevel}
 use Rattle.runs.specs.Chain.{chainMatch}
+use Rattle.chains.specs.Cycle.{level-neat}
 use Rattle.nested.specs.Calls.{runSays}
 use Rattle.nested.specs.declared.Refusal.the-variants.{Match}
-use Rattle.nested.specs.CallLaws.{said-refused, said-whole, match-bad, match-good, end-is, places-show, open-asks, level-neat, level-sound, first-sound, whole-first}
+use Rattle.nested.specs.CallLaws.{said-refused, said-whole, match-bad, match-good, end-is, places-show, open-asks, level-sound, first-sound, whole-first}
 use Rattle.nested.proofs.Cases.{other}
 use borrow.Author.Needs.{needs}
 use Rattle.nested.proofs.apply.Statement.{statement}

@@ -8,7 +8,7 @@ use Rattle.book.specs.Places.{indexOf}
 use Rattle.runs.specs.Run.{Stage}
 use Rattle.levels.specs.Slots.{shown}
 use Rattle.steps.specs.State.{Ran}
-use Rattle.nested.specs.declared.Closed.{Closed}
+use Rattle.chains.specs.declared.Closed.{Closed}
 
 -- ---- the book, read once
 

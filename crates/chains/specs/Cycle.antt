@@ -32,7 +32,7 @@ use Rattle.steps.specs.declared.State.{State}
 use Rattle.steps.specs.declared.Ready.{Ready}
 use Rattle.steps.specs.declared.Aim.{Aim}
 use Rattle.steps.specs.State.{runOf, stageOf, Ran, Able, at, Judgement, judged, readied, Prepared, actedBy, noAim, aimAt, aimedAt}
-use Rattle.nested.specs.Levels.{Indexed}
+use Rattle.chains.specs.Levels.{Indexed}
 
 -- ---- the book
 
@@ -133,3 +133,8 @@ module _ (given : Given) (sets ws : List ℕ) (depth : ℕ) (done coming : List 
     pub aim-sound : s .place .d < length (textOf done coming (s .place) .glyphs) → a .hit ≡ true
         → (Neat (a .level) × Sound 0 (length (textOf done coming (s .place) .glyphs)) (levelOf (a .level))) × ((a .records .from ≤ a .records .to) × (a .records .to ≤ length ws))
     aim-sound h y = rw a-is (sound-by e (ap (meant ws) is ∙ entry-meant x k) (rw is (entry-good x k)) h (rw a-is at y))
+
+-- ---- a level that is shown
+
+pub level-neat : (lv : Slots) (L : Level) → lv ≡ shown L → Neat lv
+level-neat lv L e = rw e (shown-neat L)

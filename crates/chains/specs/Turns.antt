@@ -24,8 +24,8 @@ use Rattle.levels.specs.Laws.{level-shown, shown-neat, count-is}
 use Rattle.steps.specs.declared.State.{State}
 use Rattle.steps.specs.declared.Ready.{Ready}
 use Rattle.steps.specs.State.{runOf, stageOf, Ran, Able, at, Judgement, judged, readied, Prepared, closedAt}
-use Rattle.nested.specs.Levels.{Indexed}
-use Rattle.nested.specs.Cycle.{book-fair}
+use Rattle.chains.specs.Levels.{Indexed}
+use Rattle.chains.specs.Cycle.{book-fair}
 
 -- the record of two words
 abbrev pub recordAt : List ℕ → ℕ → Record

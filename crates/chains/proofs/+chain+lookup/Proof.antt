@@ -14,19 +14,18 @@ use Rattle.levels.specs.declared.Slots.{Slots}
 use Rattle.levels.specs.Slots.{levelOf, shown, Neat}
 use Rattle.steps.specs.declared.State.{State}
 use Rattle.steps.specs.State.{stageOf, Able}
-use Rattle.nested.specs.Levels.{Indexed}
-use Rattle.nested.specs.Cycle.{entry-good, look-hit, look-miss, aim-sound}
-use Rattle.nested.specs.CallLaws.{level-neat}
-use Rattle.nested.specs.Turns.{recordAt, ready-neat, tried-deep, tried-inside, tried-few, tried-sound, tried-index, nestedAt, still-able, turn-rest, turn-go, records-turn, records-over, closed-is, closed-level, glyph-there, size-within}
+use Rattle.chains.specs.Levels.{Indexed}
+use Rattle.chains.specs.Cycle.{level-neat, entry-good, look-hit, look-miss, aim-sound}
+use Rattle.chains.specs.Turns.{recordAt, ready-neat, tried-deep, tried-inside, tried-few, tried-sound, tried-index, nestedAt, still-able, turn-rest, turn-go, records-turn, records-over, closed-is, closed-level, glyph-there, size-within}
 use Prim.Native.Nat.{ℕ, _<_, _≤_, _+_, _-_}
 use borrow.Fn.Kinds.{In}
 use borrow.Fn.PlainCycle.{Measures, is, falls, and}
-use Rattle.nested.proofs.chain.Reads as chain
-use Rattle.nested.proofs.chain.Kinds as chain-kinds
-use Rattle.nested.proofs.+chain+lookup.Lts-chain as chain-lts
-use Rattle.nested.proofs.lookup.Reads as lookup
-use Rattle.nested.proofs.lookup.Kinds as lookup-kinds
-use Rattle.nested.proofs.+chain+lookup.Lts-lookup as lookup-lts
+use Rattle.chains.proofs.chain.Reads as chain
+use Rattle.chains.proofs.chain.Kinds as chain-kinds
+use Rattle.chains.proofs.+chain+lookup.Lts-chain as chain-lts
+use Rattle.chains.proofs.lookup.Reads as lookup
+use Rattle.chains.proofs.lookup.Kinds as lookup-kinds
+use Rattle.chains.proofs.+chain+lookup.Lts-lookup as lookup-lts
 use Rattle.book.proofs.find_in.Reads as find-in-reads
 use Rattle.levels.proofs.repair.Reads as repair-reads
 use Rattle.steps.proofs.act.Reads as act-reads
@@ -34,8 +33,8 @@ use Rattle.steps.proofs.finish.Reads as finish-reads
 use Rattle.steps.proofs.prepare.Reads as prepare-reads
 use Rattle.steps.proofs.take_aim.Reads as take-aim-reads
 use Rattle.text.proofs.size.Reads as size-reads
-use Rattle.nested.proofs.+chain+lookup.{statement}
-use Rattle.nested.proofs.+chain+lookup.Tie.{close}
+use Rattle.chains.proofs.+chain+lookup.{statement}
+use Rattle.chains.proofs.+chain+lookup.Tie.{close}
 
 abbrev μ-chain : Measures 6 chain-kinds.ps ℕ
 μ-chain κs a = a .1 .1 .1 .1 .1 .1 .1 .1 .1 .1 .0 + a .1 .1 .1 .1 .1 .1 .1 .1 .1 .1 .0
