@@ -2,7 +2,7 @@
 use mathlib.Core.List.{List}
 use Prim.Native.Nat.{ℕ}
 use Rattle.digest.specs.declared.SetDigest.{SetDigest}
-use Rattle.digest.specs.declared.rule.RuleSetDigest.{RuleSetDigest}
+use Rattle.rule_digest.specs.declared.RuleSetDigest.{RuleSetDigest}
 
 abbrev pub digestOf : List ℕ → SetDigest
 digestOf masks = record { masks = masks }

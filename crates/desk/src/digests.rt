@@ -1,10 +1,10 @@
 // Digests. A set's digest is three masks that the caller keeps; a rule set's is one number.
 use digest::SetDigest;
-use digest::rule::RuleSetDigest;
+use rule_digest::RuleSetDigest;
 ghost use mathlib.Core.Path.{_≡_};
 ghost use mathlib.Core.Bool.{true, false};
 ghost use Rattle.digest.specs.Digest.{Says, bitsOf, none, all, joined, added, addedAll, ranged, rangeYes, mayHave, mayIntersect};
-ghost use Rattle.digest.specs.Rule.{RuleSays, ruleBits, ruleAdded, ruleFull, ruleMayHave};
+ghost use Rattle.rule_digest.specs.Rule.{RuleSays, ruleBits, ruleAdded, ruleFull, ruleMayHave};
 ghost use Rattle.desk.specs.Digests.{digestOf, ruleOf};
 
 #[no_mangle]

@@ -1,5 +1,4 @@
 -- No second answer: a digest of which each bit is said is said whole.
-use mathlib.Core.Bool.{Bool}
 use mathlib.Core.List.{List}
 use mathlib.Core.Path.{_≡_, sym, ap, _∙_}
 use Prim.Native.Nat.{ℕ, _^_, _<_}
@@ -9,9 +8,7 @@ use lib.Seq.{ext-getD}
 use Rattle.bits.specs.Bits.{bit}
 use Rattle.bits.specs.Same.{same-number}
 use Rattle.digest.specs.declared.SetDigest.{SetDigest}
-use Rattle.digest.specs.declared.rule.RuleSetDigest.{RuleSetDigest}
 use Rattle.digest.specs.Digest.{Bits, Says}
-use Rattle.digest.specs.Rule.{RuleSays}
 
 -- what the type holds: three masks of 64 bits
 pub record Whole (d : SetDigest) : Type 0 where
@@ -25,7 +22,3 @@ one-digest d e f u v s t =
     (λ i h.
     let l : i < 3 = (let n = u .three in omega arith) in
     same-number 64 (getD (d .masks) i 0) (getD (e .masks) i 0) (u .fits i l) (v .fits i l) (λ k m. s i k l m ∙ sym (t i k l m))))
-
-pub one-rule-digest : (d e : RuleSetDigest) (f : ℕ → Bool) → d .mask < 2 ^ 64 → e .mask < 2 ^ 64 → RuleSays d f → RuleSays e f → d ≡ e
-one-rule-digest d e f u v s t =
-    ap (λ (m : ℕ). record { mask = m }) (same-number 64 (d .mask) (e .mask) u v (λ k m. s k m ∙ sym (t k m)))

@@ -1,6 +1,4 @@
-// Digests of sets of glyphs and of rules' values: small sums that say "not in it" for certain, or "maybe".
-pub mod rule;
-
+// Digests of sets of glyphs: small sums that say "not in it" for certain, or "maybe".
 ghost use mathlib.Core.Path.{_≡_};
 ghost use mathlib.Core.Bool.{_||_};
 ghost use Prim.Native.Nat.{ℕ, _/_, _^_, _<_};

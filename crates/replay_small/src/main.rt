@@ -5,7 +5,7 @@ use allowance::Budget;
 use allowance::Charge;
 use allowance::Charged;
 use digest::SetDigest;
-use digest::rule::RuleSetDigest;
+use rule_digest::RuleSetDigest;
 use stored::number;
 use stored::part;
 use stored::word;

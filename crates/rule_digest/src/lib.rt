@@ -2,7 +2,7 @@
 ghost use mathlib.Core.Path.{_≡_};
 ghost use mathlib.Core.Bool.{true, false};
 ghost use Prim.Native.Nat.{_%_};
-ghost use Rattle.digest.specs.Rule.{ruleBits, RuleSays, ruleAdded, ruleFull, ruleMayHave};
+ghost use Rattle.rule_digest.specs.Rule.{ruleBits, RuleSays, ruleAdded, ruleFull, ruleMayHave};
 
 pub struct RuleSetDigest {
     pub mask: u64,

@@ -1,7 +1,7 @@
 -- What `with` says of the value mod 64. Assumes nothing.
 use borrow.Author.Needs.{needs}
-use Rattle.digest.proofs.rule.RuleSetDigest.add.Statement.{statement}
-use Rattle.digest.proofs.rule.RuleSetDigest.add.Tie as tie
+use Rattle.rule_digest.proofs.RuleSetDigest.add.Statement.{statement}
+use Rattle.rule_digest.proofs.RuleSetDigest.add.Tie as tie
 
 with-requires : tie.Need-with-requires
 with-requires c κs = search needs

@@ -4,7 +4,7 @@ use mathlib.Core.Path.{_≡_}
 use Prim.Native.Nat.{ℕ, _%_, _<_}
 use lib.Dec.{eqb}
 use Rattle.bits.specs.Bits.{bit, every}
-use Rattle.digest.specs.declared.rule.RuleSetDigest.{RuleSetDigest}
+use Rattle.rule_digest.specs.declared.RuleSetDigest.{RuleSetDigest}
 
 -- bit k of the mask is set, or not
 abbrev pub ruleBits : RuleSetDigest → ℕ → Bool

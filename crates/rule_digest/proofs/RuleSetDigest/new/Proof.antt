@@ -1,7 +1,7 @@
 -- 0 has no bit. Assumes nothing.
 use Rattle.bits.specs.Laws.{zero-bit}
-use Rattle.digest.proofs.rule.RuleSetDigest.new.Statement.{statement}
-use Rattle.digest.proofs.rule.RuleSetDigest.new.Tie as tie
+use Rattle.rule_digest.proofs.RuleSetDigest.new.Statement.{statement}
+use Rattle.rule_digest.proofs.RuleSetDigest.new.Tie as tie
 
 returns : tie.Need-returns
 returns c = λ k h. zero-bit k
