@@ -1,9 +1,9 @@
 // Allowances. The caller keeps two numbers: what is left of the work, and of the bytes.
 use allowance::Budget;
-use allowance::Charge;
 ghost use mathlib.Core.Path.{_≡_};
 ghost use Rattle.allowance.specs.Allowance.{opening, opened, worked, allocated};
-ghost use Rattle.desk.specs.Allowances.{budgetOf, leftOf, wasTaken};
+ghost use Rattle.numbers.specs.Numbers.{wasTaken};
+ghost use Rattle.desk.specs.Allowances.{budgetOf, leftOf};
 
 #[no_mangle]
 pub extern "C" fn cb_budget_for_table_bytes(left: &mut [u64; 2], bytes: u64)
@@ -21,16 +21,6 @@ pub extern "C" fn cb_budget_new(left: &mut [u64; 2], work: u64, bytes: u64)
     *left = [b.work, b.bytes];
 }
 
-// Whether a charge was taken.
-fn taken(charge: Charge) -> bool
-    ensures { λ r. ⌜ r ≡ wasTaken charge ⌝ }
-{
-    match charge {
-        Charge::Taken => true,
-        Charge::Exhausted => false,
-    }
-}
-
 #[no_mangle]
 pub extern "C" fn cb_budget_work(left: &mut [u64; 2], visits: u64) -> bool
     ensures { λ r. ⌜ (r ≡ wasTaken (worked visits (budgetOf (now (left .entry))) .charge)) × (now (left .exit) ≡ leftOf (worked visits (budgetOf (now (left .entry))) .left)) ⌝ }
@@ -39,7 +29,7 @@ pub extern "C" fn cb_budget_work(left: &mut [u64; 2], visits: u64) -> bool
     let b = c.left;
     *left = [b.work, b.bytes];
     let charge = c.charge;
-    taken(charge)
+    numbers::allowances::taken(charge)
 }
 
 #[no_mangle]
@@ -50,5 +40,5 @@ pub extern "C" fn cb_budget_alloc(left: &mut [u64; 2], count: u64, size: u64) ->
     let b = c.left;
     *left = [b.work, b.bytes];
     let charge = c.charge;
-    taken(charge)
+    numbers::allowances::taken(charge)
 }

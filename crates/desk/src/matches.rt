@@ -4,11 +4,9 @@ use crate::walks::Lookup;
 use matching::ContextMatch;
 use matching::InputAnswer;
 use matching::InputMatch;
-use matching::Refusal;
 ghost use mathlib.Core.Path.{_≡_};
-ghost use Rattle.matching.specs.Answers.{refusalNumber};
 ghost use Rattle.matching.specs.Calls.{inputOf, aheadOf, backOf};
-ghost use Rattle.desk.specs.Walks.{testOf};
+ghost use Rattle.numbers.specs.Numbers.{testOf};
 ghost use Rattle.desk.specs.Matches.{lookupOf, toldOf, matchedOf, placedOf};
 
 // 0 with end, total, count and positions; 4 with the extent in `end`; or a refusal's number. Unused slots are 0.
@@ -50,7 +48,7 @@ pub extern "C" fn cb_match_input(
         idx,
         asked(lookup),
         sets,
-        walks::test(test),
+        numbers::walks::test(test),
         values,
     ))
 }
@@ -79,7 +77,7 @@ pub extern "C" fn cb_match_lookahead(
         start,
         asked(lookup),
         sets,
-        walks::test(test),
+        numbers::walks::test(test),
         values,
     ))
 }
@@ -106,7 +104,7 @@ pub extern "C" fn cb_match_backtrack<'a>(
         idx,
         asked(lookup),
         sets,
-        walks::test(test),
+        numbers::walks::test(test),
         values,
     ))
 }
@@ -122,17 +120,6 @@ fn asked(l: Lookup) -> matching::Lookup
     }
 }
 
-fn refusal(why: Refusal) -> u8
-    ensures { λ r. ⌜ r ≡ refusalNumber why ⌝ }
-{
-    match why {
-        Refusal::Shape => 1,
-        Refusal::Cursor => 2,
-        Refusal::Values => 3,
-        Refusal::Start => 6,
-    }
-}
-
 fn input_told(m: InputMatch) -> Matched
     ensures { λ r. ⌜ r ≡ matchedOf m ⌝ }
 {
@@ -141,7 +128,7 @@ fn input_told(m: InputMatch) -> Matched
     let positions = m.positions;
     match answer {
         InputAnswer::Matched { end, total } => told(0, end, total, count, positions),
-        InputAnswer::Refused(why) => told(refusal(why), 0, 0, count, positions),
+        InputAnswer::Refused(why) => told(numbers::matches::refusal(why), 0, 0, count, positions),
         InputAnswer::Lost(extent) => told(4, extent, 0, count, positions),
         InputAnswer::Ligature => told(5, 0, 0, count, positions),
     }
@@ -165,7 +152,7 @@ fn context_told(c: ContextMatch) -> Placed
     match c {
         ContextMatch::Matched(place) => Placed { number: 0, place },
         ContextMatch::Refused(why) => Placed {
-            number: refusal(why),
+            number: numbers::matches::refusal(why),
             place: 0,
         },
         ContextMatch::Lost(extent) => Placed {

@@ -1,17 +1,13 @@
 // A run of records over a text, and whether a book reads.
 use crate::matches::Matched;
-use matching::InputAnswer;
 use matching::InputMatch;
-use nested::Refusal;
 use nested::RunAnswer;
-use nested::RunEnding;
-use runs::Ending;
 use runs::Given;
 ghost use mathlib.Core.Path.{_≡_};
 ghost use Rattle.book.specs.Book.{readBook, isRead};
 ghost use Rattle.nested.specs.declared.RunAnswer.{RunAnswer as Answer};
-ghost use Rattle.nested.specs.Calls.{checkedAll, runSays, Said, endingNumber, refusalNumber};
-ghost use Rattle.desk.specs.Runs.{answerFrom, matchFrom, givenFrom, numberOf, ranOf};
+ghost use Rattle.nested.specs.Calls.{checkedAll, runSays, Said};
+ghost use Rattle.desk.specs.Runs.{matchFrom, givenFrom, ranOf};
 
 // The three switches and the lookup mask. A run is GSUB.
 #[repr(C)]
@@ -77,21 +73,11 @@ fn match_from(m: Matched) -> InputMatch
     ensures { λ r. ⌜ r ≡ matchFrom m ⌝ }
 {
     let positions = m.positions;
-    let answer = success(m.number, m.end, m.total);
+    let answer = numbers::nestings::success(m.number, m.end, m.total);
     InputMatch {
         answer,
         count: m.count,
         positions,
-    }
-}
-
-fn success(number: u8, end: usize, total: u16) -> InputAnswer
-    ensures { λ r. ⌜ r ≡ answerFrom number end total ⌝ }
-{
-    if number == 0 {
-        InputAnswer::Matched { end, total }
-    } else {
-        InputAnswer::Ligature
     }
 }
 
@@ -106,44 +92,12 @@ fn given(s: Switches) -> Given
     }
 }
 
-fn ended(e: Ending) -> u8
-    ensures { λ r. ⌜ r ≡ endingNumber e ⌝ }
-{
-    match e {
-        Ending::Finished => 0,
-        Ending::Short => 8,
-        Ending::Deep => 9,
-        Ending::Full => 10,
-    }
-}
-
-fn refused(why: Refusal) -> u8
-    ensures { λ r. ⌜ r ≡ refusalNumber why ⌝ }
-{
-    match why {
-        Refusal::Shape => 1,
-        Refusal::Cursor => 2,
-        Refusal::Limits => 12,
-        Refusal::Book => 11,
-        Refusal::Match => 7,
-    }
-}
-
-fn number_of(e: RunEnding) -> u8
-    ensures { λ r. ⌜ r ≡ numberOf e ⌝ }
-{
-    match e {
-        RunEnding::Ended(ending) => ended(ending),
-        RunEnding::Refused(why) => refused(why),
-    }
-}
-
 fn told(a: RunAnswer) -> Ran
     ensures { λ r. ⌜ r ≡ ranOf a ⌝ }
 {
     let ending = a.ending;
     let positions = a.positions;
-    let number = number_of(ending);
+    let number = numbers::nestings::number_of(ending);
     Ran {
         number,
         spent: a.spent,

@@ -6,15 +6,13 @@ use verdict::MaySkip;
 use verdict::Settings;
 use verdict::Sign;
 use verdict::SkipAnswer;
-use verdict::Table;
-use verdict::Test;
 use verdict::Verdict;
 use verdict::VerdictAnswer;
 use walk::Walked;
 ghost use mathlib.Core.Path.{_≡_};
 ghost use Rattle.verdict.specs.Ask.{askSkip, askMatch, askVerdict, skipReply, matchReply, verdictReply};
 ghost use Rattle.walk.specs.Calls.{forwardOf, backwardOf};
-ghost use Rattle.desk.specs.Walks.{tableOf, testOf, settingsOf, matcherFor, signOf, saidOf, stepOf};
+ghost use Rattle.desk.specs.Walks.{settingsOf, matcherFor, signOf, saidOf, stepOf};
 
 // A lookup's table and settings, its mask and its props.
 #[repr(C)]
@@ -147,24 +145,6 @@ pub extern "C" fn cb_backward(
     ))
 }
 
-fn table(gpos: bool) -> Table
-    ensures { λ r. ⌜ r ≡ tableOf gpos ⌝ }
-{
-    if gpos { Table::Gpos } else { Table::Gsub }
-}
-
-pub fn test(n: u8) -> Test
-    ensures { λ r. ⌜ r ≡ testOf n ⌝ }
-{
-    if n == 0 {
-        Test::Equal
-    } else if n == 1 {
-        Test::Any
-    } else {
-        Test::Nothing
-    }
-}
-
 fn matcher(l: Lookup, context: bool) -> Matcher
     ensures { λ r. ⌜ r ≡ matcherFor l context ⌝ }
 {
@@ -174,7 +154,7 @@ fn matcher(l: Lookup, context: bool) -> Matcher
 pub fn settings(l: Lookup) -> Settings
     ensures { λ r. ⌜ r ≡ settingsOf l ⌝ }
 {
-    let t = table(l.gpos);
+    let t = numbers::walks::table(l.gpos);
     Settings {
         table: t,
         zwnj: l.zwnj,
@@ -186,7 +166,7 @@ pub fn settings(l: Lookup) -> Settings
 fn sign(s: Sought) -> Sign
     ensures { λ r. ⌜ r ≡ signOf s ⌝ }
 {
-    let t = test(s.test);
+    let t = numbers::walks::test(s.test);
     Sign {
         test: t,
         value: s.value,

@@ -1,7 +1,7 @@
 -- By the two tests. Assumes nothing.
 use borrow.Author.Tests.{eq-eqb, ne-eqb}
-use Rattle.desk.proofs.walks.test.Statement.{statement}
-use Rattle.desk.proofs.walks.test.Tie as tie
+use Rattle.numbers.proofs.walks.test.Statement.{statement}
+use Rattle.numbers.proofs.walks.test.Tie as tie
 
 returns : tie.Need-returns
 returns c = rw (eq-eqb _ _ (c .if1 .taken))

@@ -1,7 +1,7 @@
 -- By the test of the number. Assumes nothing.
 use borrow.Author.Tests.{eq-eqb, ne-eqb}
-use Rattle.desk.proofs.nestings.success.Statement.{statement}
-use Rattle.desk.proofs.nestings.success.Tie as tie
+use Rattle.numbers.proofs.nestings.success.Statement.{statement}
+use Rattle.numbers.proofs.nestings.success.Tie as tie
 
 returns : tie.Need-returns
 returns c = rw (eq-eqb _ _ (c .if1 .taken))
