@@ -43,6 +43,17 @@ inputTold gs idx (taken qs) = matchedAt gs idx qs
 inputTold gs idx (lost extent) = without (InputAnswer.Lost extent)
 inputTold gs idx unlike = without InputAnswer.Ligature
 
+-- how many positions an answer has: the cursor and one for each value
+abbrev pub countOf : InputAnswer → ℕ → ℕ
+countOf (InputAnswer.Matched end total) n = n + 1
+countOf (InputAnswer.Refused why) n = 0
+countOf (InputAnswer.Lost extent) n = 0
+countOf InputAnswer.Ligature n = 0
+
+-- an answer to n values, beside the slots
+abbrev pub madeOf : InputAnswer → ℕ → List ℕ → InputMatch
+madeOf answer n positions = record { answer = answer; count = countOf answer n; positions = positions }
+
 -- from p on; a context matcher has no rule on places that could turn one down
 abbrev pub contextTold : Way → ℕ → Outcome → ContextMatch
 contextTold way p (taken qs) = ContextMatch.Matched (reached way p qs)

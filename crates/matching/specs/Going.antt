@@ -5,68 +5,21 @@ use mathlib.Core.List.{List, [], _∷_, _++_, append-assoc, append-nil}
 use mathlib.Core.Bool.{Bool, true, cond}
 use native.Mathlib.Omega.{arith}
 use native.Mathlib.Numerals.{add-one}
-use lib.ListN.{length, getD, drop, replicate, set, length-append, length-drop, drop-of-length-le}
+use lib.ListN.{length, getD, drop, replicate, set, length-append, drop-of-length-le}
 use lib.Seq.{drop-cons, set-append-seam}
 use Rattle.glyph.specs.declared.Glyph.{Glyph}
 use Rattle.glyph.specs.Glyph.{blank}
-use Rattle.verdict.specs.declared.Matcher.{Matcher}
-use Rattle.verdict.specs.declared.Sign.{Sign}
 use Rattle.verdict.specs.declared.Verdict.{Verdict}
-use Rattle.verdict.specs.Verdict.{judgeAt}
+use Rattle.verdict.specs.declared.Verdict.the-variants.{Skip}
 use Rattle.walk.specs.declared.Walked.{Walked}
 use Rattle.walk.specs.declared.Walked.the-variants.{Found, Stopped, RanOut, Refused}
-use Rattle.walk.specs.Walk.{walkFrom, walkBack}
-use Rattle.walk.specs.Means.{Means, MeansBack}
-use Rattle.walk.specs.Laws.{walk-means}
-use Rattle.walk.specs.Backward.{back-means}
-use Rattle.walk.specs.Parts.{raised, walk-onward}
+use Rattle.walk.specs.Walk.{after, walkFrom, afterBack, walkBack}
+use Rattle.walk.specs.Steps.{walk-on, back-on, back-end}
 use Rattle.matching.specs.declared.InputAnswer.{InputAnswer}
 use Rattle.matching.specs.declared.ContextMatch.{ContextMatch}
-use Rattle.matching.specs.Take.{slots, Way, ahead, walkBy, past, Outcome, taken, lost, unlike, having, follow, takes, reached}
+use Rattle.matching.specs.Take.{slots, Way, ahead, behind, walkBy, past, Outcome, taken, lost, unlike, having, follow, takes, reached}
 use Rattle.matching.specs.Matchers.{anywhere}
 use Rattle.matching.specs.Answers.{slotted, ligated, totalOf, inputTold, contextTold}
-
--- ---- what a walk's answer keeps to
-
-abbrev pub Within : ℕ → Walked → Type 0
-Within len (Found q) = q < len
-Within len (Stopped extent) = extent ≤ len
-Within len (RanOut extent) = extent ≤ len
-Within len Refused = ⊥
-
-within-means : (v : ℕ → Verdict) (len next : ℕ) (r : Walked) → next ≤ len → Means v len next r → Within len r
-within-means v len next (Found q) h f = f .inside
-within-means v len next (Stopped extent) h f = let i = f .inside in let k = f .counts in omega arith
-within-means v len next (RanOut extent) h f = let k = f .counts in omega arith
-within-means v len next Refused h f = f
-
-pub walk-within : (v : ℕ → Verdict) (len next : ℕ) (r : Walked) → next ≤ len → r ≡ walkFrom v len next → Within len r
-walk-within v len next r h e = within-means v len next r h (walk-means v len next r .0 (sym e))
-
-abbrev pub WithinBack : ℕ → Walked → Type 0
-WithinBack place (Found q) = q < place
-WithinBack place (Stopped extent) = Unit {0}
-WithinBack place (RanOut extent) = Unit {0}
-WithinBack place Refused = ⊥
-
-within-back : (v : ℕ → Verdict) (place : ℕ) (r : Walked) → MeansBack v place r → WithinBack place r
-within-back v place (Found q) f = f .earlier
-within-back v place (Stopped extent) f = tt
-within-back v place (RanOut extent) f = tt
-within-back v place Refused f = f
-
-pub back-within : (v : ℕ → Verdict) (place : ℕ) (r : Walked) → r ≡ walkBack v place → WithinBack place r
-back-within v place r e = within-back v place r (back-means v place r .0 (sym e))
-
--- the walk over the part from `start` on, counted in the whole
-pub walk-part : (m : Matcher) (sign : Sign) (syllable : ℕ) (sets : List ℕ) (gs part : List Glyph) (start len next : ℕ) (r : Walked)
-    → start ≤ length gs → part ≡ drop start gs → len ≡ length part → r ≡ walkFrom (judgeAt m sign syllable sets part) len next
-    → walkFrom (judgeAt m sign syllable sets gs) (length gs) (start + next) ≡ raised start r
-walk-part m sign syllable sets gs part start len next r h ep el er =
-    let whole : length gs ≡ start + len = omega (arith, ap length ep, length-drop start gs) in
-    ap (λ (n : ℕ). walkFrom (judgeAt m sign syllable sets gs) n (start + next)) whole
-    ∙ sym (walk-onward m sign syllable sets gs start len next)
-    ∙ ap (raised start) (ap (λ (l : List Glyph). walkFrom (judgeAt m sign syllable sets l) len next) (sym ep) ∙ sym er)
 
 -- ---- context
 
@@ -107,6 +60,25 @@ module _ (way : Way) where
       unfolding takes reached
       told-end h = ap (told p) (drop-of-length-le values h)
 
+-- a place at a time, with the value that is due: the verdict tells whether it is taken there, lost, or sought further on
+module _ (v : ℕ → ℕ → Verdict) (i : ℕ) (values : List ℕ) (h : i < length values) where
+  abbrev due : ℕ → Verdict
+  due = v (getD values i 0)
+
+  pub back-turn : (place p : ℕ) (r : Verdict) → place ≡ suc p → due p ≡ r
+      → told behind v place (drop i values) ≡ toldBy behind v (afterBack r p (walkBack due p)) (drop (i + 1) values)
+  back-turn place p r l e =
+      told-on behind v place i values h
+      ∙ ap (λ (w : Walked). toldBy behind v w (drop (i + 1) values))
+      (back-on due place p l ∙ ap (λ (r : Verdict). afterBack r p (walkBack due p)) e)
+
+  pub back-skip : (place p : ℕ) → place ≡ suc p → due p ≡ Skip → told behind v place (drop i values) ≡ told behind v p (drop i values)
+  back-skip place p l e = back-turn place p Skip l e ∙ sym (told-on behind v p i values h)
+
+  pub back-out : (place : ℕ) → place ≡ 0 → told behind v place (drop i values) ≡ ContextMatch.Lost 0
+  back-out place l =
+      told-on behind v place i values h ∙ ap (λ (w : Walked). toldBy behind v w (drop (i + 1) values)) (back-end due place l)
+
 -- ---- input
 
 having-having : (a b : List ℕ) (o : Outcome) → having a (having b o) ≡ having (a ++ b) o
@@ -138,7 +110,8 @@ unfolding reached
 reached-more way p [] q = refl
 reached-more way p (r ∷ qs) q = reached-more way (past way r) qs q
 
--- i values have taken the places qs, and what the rest take goes on from `next`
+-- i values have taken the places qs, and what the rest take goes on from `next`: past the last place taken, and past what is passed over for
+-- the value that is due
 pub record Going (gs : List Glyph) (v : ℕ → ℕ → Verdict) (ok : ℕ → Bool) (idx : ℕ) (values positions : List ℕ) (total next i : ℕ) : Type 0 where
   pub qs : List ℕ
   pub size : length qs ≡ i
@@ -146,7 +119,7 @@ pub record Going (gs : List Glyph) (v : ℕ → ℕ → Verdict) (ok : ℕ → B
   pub inside : next ≤ length gs
   pub slotting : positions ≡ slotted (idx ∷ qs)
   pub left : takes (ahead (length gs)) v ok (idx + 1) values ≡ having qs (takes (ahead (length gs)) v ok next (drop i values))
-  pub here : reached (ahead (length gs)) (idx + 1) qs ≡ next
+  pub here : length values ≤ i → reached (ahead (length gs)) (idx + 1) qs ≡ next
   pub sum : total ≡ totalOf gs idx qs
   pub small : total ≤ 255 * (i + 1)
 
@@ -163,20 +136,43 @@ module _ (gs : List Glyph) (v : ℕ → ℕ → Verdict) (ok : ℕ → Bool) (id
     inside = omega arith;
     slotting = refl;
     left = sym (having-none (from (idx + 1) values));
-    here = refl;
+    here = λ l. refl;
     sum = omega arith;
     small = omega arith;
   }
 
   module _ (positions : List ℕ) (total next i : ℕ) (g : Going gs v ok idx values positions total next i) where
+    -- what the values left take from p on, by the walk for the one that is due
+    left-on : (p : ℕ) → i < length values
+        → from p (drop i values) ≡ follow ok (walkFrom (v (getD values i 0)) (length gs) p) (λ q. from (q + 1) (drop (i + 1) values))
+    unfolding takes
+    left-on p h = rw (add-one i) (ap (from p) (drop-cons values i 0 h))
+
     -- what a turn's walk makes of the whole
     pub turn : i < length values → (w : Walked) → walkFrom (v (getD values i 0)) (length gs) next ≡ w
         → from (idx + 1) values ≡ having (g .qs) (follow ok w (λ q. from (q + 1) (drop (i + 1) values)))
-    unfolding takes
     turn h w e =
-        rw (add-one i)
-        (g .left ∙ ap (λ (l : List ℕ). having (g .qs) (from next l)) (drop-cons values i 0 h)
-        ∙ ap (λ (w : Walked). having (g .qs) (follow ok w (λ q. from (q + 1) (drop (suc i) values)))) e)
+        g .left ∙ ap (having (g .qs)) (left-on next h ∙ ap (λ (w : Walked). follow ok w (λ q. from (q + 1) (drop (i + 1) values))) e)
+
+    -- the walk for the value that is due, by the verdict on the next place
+    pub walks : (r : Verdict) → next < length gs → v (getD values i 0) next ≡ r
+        → walkFrom (v (getD values i 0)) (length gs) next ≡ after r next (walkFrom (v (getD values i 0)) (length gs) (next + 1))
+    walks r l e =
+        walk-on (v (getD values i 0)) (length gs) next l
+        ∙ ap (λ (r : Verdict). after r next (walkFrom (v (getD values i 0)) (length gs) (next + 1))) e
+
+    pub going-skip : i < length values → next < length gs → v (getD values i 0) next ≡ Skip → Going gs v ok idx values positions total (next + 1) i
+    going-skip h l e = record {
+      qs = g .qs;
+      size = g .size;
+      within = g .within;
+      inside = omega arith;
+      slotting = g .slotting;
+      left = turn h (walkFrom (v (getD values i 0)) (length gs) (next + 1)) (walks Skip l e) ∙ ap (having (g .qs)) (sym (left-on (next + 1) h));
+      here = λ k. absurd (omega arith);
+      sum = g .sum;
+      small = g .small;
+    }
 
     pub going-more : (q : ℕ) → i < length values → length values < slots → q < length gs → getD gs q blank .ligated ≤ 255
         → walkFrom (v (getD values i 0)) (length gs) next ≡ Found q → ok q ≡ true
@@ -198,7 +194,7 @@ module _ (gs : List Glyph) (v : ℕ → ℕ → Verdict) (ok : ℕ → Bool) (id
               turn h (Found q) e
               ∙ ap (λ (b : Bool). having (g .qs) (cond b (having (q ∷ []) (from (q + 1) (drop (i + 1) values))) unlike)) k
               ∙ having-having (g .qs) (q ∷ []) (from (q + 1) (drop (i + 1) values));
-          here = reached-more (ahead (length gs)) (idx + 1) (g .qs) q;
+          here = λ l. reached-more (ahead (length gs)) (idx + 1) (g .qs) q;
           sum = omega (arith, ligated-more gs (g .qs) q);
           small = omega arith;
         }
@@ -211,4 +207,4 @@ module _ (gs : List Glyph) (v : ℕ → ℕ → Verdict) (ok : ℕ → Bool) (id
         g .left ∙ ap (λ (l : List ℕ). having (g .qs) (from next l)) (drop-of-length-le values h) ∙ ap taken (append-nil (g .qs)) in
         let n : suc (length (g .qs)) ≡ i + 1 = let s = g .size in omega arith in
         ap (inputTold gs idx) e
-        ∙ (λ j. record { answer = InputAnswer.Matched (g .here j) (sym (g .sum) j); count = n j; positions = sym (g .slotting) j })
+        ∙ (λ j. record { answer = InputAnswer.Matched (g .here h j) (sym (g .sum) j); count = n j; positions = sym (g .slotting) j })

@@ -3,6 +3,7 @@ pub mod Matchers
 pub mod Answers
 pub mod Calls
 pub mod Going
+pub mod Onward
 pub mod Accepted
 pub mod Demand2
 pub mod Demand2Laws

@@ -5,14 +5,16 @@ use verdict::Settings;
 use verdict::Sign;
 use verdict::Table;
 use verdict::Test;
+use verdict::Verdict;
 use walk::Walked;
 ghost use mathlib.Core.Path.{_≡_};
-ghost use Prim.Native.Nat.{_≤_};
+ghost use mathlib.Core.List.{[]};
+ghost use Prim.Native.Nat.{_+_, _^_, _≤_, _<_};
 ghost use lib.ListN.{length};
 ghost use Rattle.glyph.specs.Glyph.{glyphsOf};
-ghost use Rattle.matching.specs.Take.{ahead, behind};
+ghost use Rattle.matching.specs.Take.{slots, ahead, behind};
 ghost use Rattle.matching.specs.Matchers.{inputBy, inputOn, aheadOn, backOn, firstOrNone, backwardRow, searchedGlyphs};
-ghost use Rattle.matching.specs.Answers.{without, inputTold, contextTold};
+ghost use Rattle.matching.specs.Answers.{slotted, without, countOf, madeOf, inputTold, contextTold};
 ghost use Rattle.matching.specs.Calls.{badText, inputFit, aheadFit, backFit, inputOf, aheadOf, backOf};
 ghost use Rattle.matching.specs.Accepted.{InputReady};
 
@@ -89,7 +91,17 @@ pub fn match_input(
     }
     let before = glyph::first(done, d);
     let text = glyph::first(coming, len);
-    input(before, text, idx, lookup, sets, test, values)
+    let settings = lookup.settings;
+    let table = settings.table;
+    let m = verdict::matcher_of(settings, false, lookup.mask, lookup.props);
+    let searched = searched_row(table, before);
+    let mut positions = [0u16; 64];
+    let answer = take_input(searched, text, idx, m, sets, test, values, &mut positions);
+    InputMatch {
+        answer,
+        count: count_of(answer, values.len()),
+        positions,
+    }
 }
 
 // The values against the glyphs from a start on.
@@ -258,7 +270,26 @@ pub fn input(
     let table = settings.table;
     let m = verdict::matcher_of(settings, false, lookup.mask, lookup.props);
     let searched = searched_row(table, before);
-    take_input(searched, text, idx, m, sets, test, values)
+    let mut positions = [0u16; 64];
+    let answer = take_input(searched, text, idx, m, sets, test, values, &mut positions);
+    InputMatch {
+        answer,
+        count: count_of(answer, values.len()),
+        positions,
+    }
+}
+
+// How many positions an answer has: the cursor and one for each value.
+fn count_of(answer: InputAnswer, values: usize) -> usize
+    requires { ⌜ values < slots ⌝ }
+    ensures { λ r. ⌜ r ≡ countOf answer values ⌝ }
+{
+    match answer {
+        InputAnswer::Matched { end: _, total: _ } => values + 1,
+        InputAnswer::Refused(_) => 0,
+        InputAnswer::Lost(_) => 0,
+        InputAnswer::Ligature => 0,
+    }
 }
 
 // Under GPOS nothing is searched for a base.
@@ -271,6 +302,7 @@ fn searched_row(table: Table, before: &[u32]) -> &[u32]
     }
 }
 
+// Input with a matcher. The positions are written to slots that are lent, so that they are handed on only once.
 fn take_input(
     searched: &[u32],
     text: &[u32],
@@ -279,46 +311,51 @@ fn take_input(
     sets: &[u16],
     test: Test,
     values: &[u32],
-) -> InputMatch
-    requires { ⌜ InputReady (glyphsOf (now text)) idx (now values) ⌝ }
-    ensures { λ r. ⌜ r ≡ inputTold (glyphsOf (now (text .entry))) idx (inputBy m (now (sets .entry)) test (glyphsOf (now (searched .entry))) (glyphsOf (now (text .entry))) idx (now (values .entry))) ⌝ }
+    positions: &mut [u16; 64],
+) -> InputAnswer
+    requires { ⌜ InputReady (glyphsOf (now text)) idx (now values) × (now positions ≡ slotted []) ⌝ }
+    ensures { λ r. ⌜ madeOf r (length (now (values .entry))) (now (positions .exit)) ≡ inputTold (glyphsOf (now (text .entry))) idx (inputBy m (now (sets .entry)) test (glyphsOf (now (searched .entry))) (glyphsOf (now (text .entry))) idx (now (values .entry))) ⌝ }
 {
     let len = glyph::count(text);
     let first = glyph::read(text, idx);
-    let mut positions = [0u16; 64];
     positions[0] = idx as u16;
     let mut total = first.count as u16;
     let mut base = Ligbase::NotChecked;
     let mut next = idx + 1;
     let mut i = 0;
     while i < values.len() {
-        let sign = Sign {
-            test,
-            value: values[i],
-        };
-        match walk::forward_from(text, len, next, m, sign, first.syllable, sets) {
-            Walked::Found(q) => {
-                let this = glyph::read(text, q);
-                base = ligature::look_for_base(base, first, this, searched, m, sets);
-                if !ligature::may_join(first, this, base) {
-                    return refuse(InputAnswer::Ligature);
+        if len <= next {
+            return lose(InputAnswer::Lost(next), positions);
+        }
+        let q = next;
+        next += 1;
+        let this = glyph::read(text, q);
+        if !verdict::is_skip_yes(m, sets, this) {
+            let value = values[i];
+            match verdict::on_rest(m, Sign { test, value }, first.syllable, this) {
+                Verdict::Match => {
+                    base = ligature::look_for_base(base, first, this, searched, m, sets);
+                    if !ligature::may_join(first, this, base) {
+                        return lose(InputAnswer::Ligature, positions);
+                    }
+                    i += 1;
+                    positions[i] = q as u16;
+                    total += this.ligated as u16;
                 }
-                next = q + 1;
-                i += 1;
-                positions[i] = q as u16;
-                total += this.ligated as u16;
+                Verdict::NotMatch => return lose(InputAnswer::Lost(next), positions),
+                Verdict::Skip => {}
             }
-            Walked::Stopped(extent) => return refuse(InputAnswer::Lost(extent)),
-            Walked::RanOut(extent) => return refuse(InputAnswer::Lost(extent)),
-            // Only the walks that a user calls refuse.
-            Walked::Refused => return refuse(InputAnswer::Refused(Refusal::Shape)),
         }
     }
-    InputMatch {
-        answer: InputAnswer::Matched { end: next, total },
-        count: i + 1,
-        positions,
-    }
+    InputAnswer::Matched { end: next, total }
+}
+
+// What had been taken is no match: no slot stays filled.
+fn lose(answer: InputAnswer, positions: &mut [u16; 64]) -> InputAnswer
+    ensures { λ r. ⌜ (r ≡ answer) × (now (positions .exit) ≡ slotted []) ⌝ }
+{
+    *positions = [0u16; 64];
+    answer
 }
 
 // Lookahead: the walk is handed the glyphs from the start on; what it answers is counted in the whole text.
@@ -373,19 +410,18 @@ pub fn backtrack(
     let mut place = glyph::count(row);
     let mut i = 0;
     while i < values.len() {
-        let sign = Sign {
-            test,
-            value: values[i],
-        };
-        match walk::backward_from(row, place, m, sign, syllable, sets) {
-            Walked::Found(q) => {
-                place = q;
-                i += 1;
+        if place == 0 {
+            return ContextMatch::Lost(0);
+        }
+        place -= 1;
+        let g = glyph::read(row, place);
+        if !verdict::is_skip_yes(m, sets, g) {
+            let value = values[i];
+            match verdict::on_rest(m, Sign { test, value }, syllable, g) {
+                Verdict::Match => i += 1,
+                Verdict::NotMatch => return ContextMatch::Lost(walk::back_extent(place)),
+                Verdict::Skip => {}
             }
-            Walked::Stopped(extent) => return ContextMatch::Lost(extent),
-            Walked::RanOut(extent) => return ContextMatch::Lost(extent),
-            // Only the walks that a user calls refuse.
-            Walked::Refused => return ContextMatch::Refused(Refusal::Shape),
         }
     }
     ContextMatch::Matched(place)

@@ -94,7 +94,7 @@ pub fn forward_from(
 }
 
 // The extent of a backward walk that is stopped at p.
-fn back_extent(p: usize) -> usize
+pub fn back_extent(p: usize) -> usize
     ensures { λ r. ⌜ r ≡ max p 1 - 1 ⌝ }
 {
     if p == 0 { 0 } else { p - 1 }

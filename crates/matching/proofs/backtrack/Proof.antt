@@ -1,17 +1,24 @@
--- The answer from the row's end with all values is the answer from the last place taken with the values left. Each turn takes one.
--- Assumes nothing.
-use Prim.Native.Nat.{ℕ, _+_, _-_, _≤_}
+-- The answer from the row's end with all values is the answer from `place` with the values left: what is between was taken or passed over.
+-- Each turn tests the place before. Assumes nothing.
+use Prim.Native.Nat.{ℕ, _+_, _-_, _^_, _≤_, _<_}
 use mathlib.Core.Path.{_≡_, sym, ap, _∙_}
+use mathlib.Core.List.{List}
 use native.Mathlib.Omega.{arith}
 use borrow.Author.Needs.{needs}
+use borrow.Author.Tests.{not-true, not-false}
 use lib.ListN.{length, drop, getD}
+use Rattle.glyph.specs.declared.Glyph.{Glyph}
 use Rattle.glyph.specs.Glyph.{glyphsOf}
+use Rattle.verdict.specs.declared.Matcher.{Matcher}
+use Rattle.verdict.specs.declared.Sign.{Sign}
 use Rattle.verdict.specs.declared.Verdict.{Verdict}
-use Rattle.walk.specs.declared.Walked.{Walked}
-use Rattle.walk.specs.declared.Walked.the-variants.{Found, Refused}
+use Rattle.verdict.specs.declared.Verdict.the-variants.{Match, NotMatch, Skip}
+use Rattle.verdict.specs.Laws.{judged-yes, judged-rest}
+use Rattle.walk.specs.Walk.{afterBack, walkBack}
+use Rattle.matching.specs.declared.ContextMatch.{ContextMatch}
 use Rattle.matching.specs.Take.{behind}
 use Rattle.matching.specs.Matchers.{judge, backOn}
-use Rattle.matching.specs.Going.{told, toldBy, told-on, told-end, WithinBack, back-within}
+use Rattle.matching.specs.Going.{told, toldBy, told-end, back-turn, back-skip, back-out}
 use Rattle.matching.proofs.backtrack.Statement.{statement}
 use Rattle.matching.proofs.backtrack.Tie as tie
 
@@ -22,7 +29,7 @@ Inv-loop row syllable sets test values m place₀ i₀ place i =
     ≡ told behind (judge m sets test syllable (glyphsOf row)) place (drop i values))
 
 abbrev μ-loop : tie.MeasureT-loop
-μ-loop row syllable sets test values m place₀ i₀ place i = length values - i
+μ-loop row syllable sets test values m place₀ i₀ place i = place
 
 matcher-of-requires : tie.Need-matcher-of-requires Inv-loop μ-loop
 matcher-of-requires c κs = search needs
@@ -33,79 +40,142 @@ count-requires c κs = search needs
 loop-holds : tie.Need-loop-holds Inv-loop μ-loop
 loop-holds c = (omega (arith, c .count .ensures), rw (c .count .ensures))
 
-mul-t14 : tie.Need-mul-t14 Inv-loop μ-loop
-mul-t14 c = search needs
+returns : tie.Need-returns Inv-loop μ-loop
+unfolding backOn
+returns c =
+    let a = c .before .before .before .before .before .before .before .before .args in
+    let l = c .before .before .loop in
+    let m = c .before .before .before .before .matcher-of in
+    rw (← m .ensures)
+    (sym (l .inv .1
+    ∙ back-out (judge (m .result) (a .sets .now) (a .test) (a .syllable) (glyphsOf (a .row .now))) (l .i) (a .values .now) (omega arith) (l .place) (omega arith)))
 
-shared-slice-read-t17 : tie.Need-shared-slice-read-t17 Inv-loop μ-loop
-shared-slice-read-t17 c = search needs
+sub-place : tie.Need-sub-place Inv-loop μ-loop
+sub-place c = search needs
 
-backward-from-requires : tie.Need-backward-from-requires Inv-loop μ-loop
-backward-from-requires c κs = search needs
+read-requires : tie.Need-read-requires Inv-loop μ-loop
+read-requires c κs = search needs
 
--- after the walk of a turn
-module _ (c : tie.After-backward-from Inv-loop μ-loop) where
+is-skip-yes-requires : tie.Need-is-skip-yes-requires Inv-loop μ-loop
+is-skip-yes-requires c κs = search needs
+
+few : (s : tie.Start Inv-loop μ-loop) → length (s .args .values .now) < 2 ^ 64
+few s = omega arith
+
+-- what was read
+module _ (c : tie.After-is-skip-yes Inv-loop μ-loop) where
+  abbrev start : tie.Start Inv-loop μ-loop
+  start = c .before .before .before .before .before .before .before .before .before .before
+
+  abbrev gs : List Glyph
+  gs = glyphsOf (start .args .row .now)
+
+  abbrev place : ℕ
+  place = c .before .before .before .before .loop .place
+
+  abbrev i : ℕ
+  i = c .before .before .before .before .loop .i
+
+  abbrev at : ℕ
+  at = place - 1
+
+  abbrev matcher : Matcher
+  matcher = c .before .before .before .before .before .before .matcher-of .result
+
   abbrev on : ℕ → ℕ → Verdict
-  on =
-      let a = c .before .before .before .before .before .before .before .before .before .args in
-      judge (c .before .before .before .before .before .matcher-of .result) (a .sets .now) (a .test) (a .syllable) (glyphsOf (a .row .now))
+  on = let a = start .args in judge matcher (a .sets .now) (a .test) (a .syllable) gs
 
-  -- what it makes of the whole
-  whole : (r : Walked) → c .backward-from .result ≡ r
-      → let a = c .before .before .before .before .before .before .before .before .before .args in
-      told behind on (length (glyphsOf (a .row .now))) (a .values .now) ≡ toldBy behind on r (drop (c .before .before .before .loop .i + 1) (a .values .now))
-  whole r e =
-      let a = c .before .before .before .before .before .before .before .before .before .args in
-      let l = c .before .before .before .loop in
-      l .inv .1 ∙ told-on behind on (l .place) (l .i) (a .values .now) (omega arith)
-      ∙ ap (λ (w : Walked). toldBy behind on w (drop (l .i + 1) (a .values .now))) (sym (c .backward-from .ensures) ∙ e)
+  abbrev sign : Sign
+  sign = record { test = start .args .test; value = getD (start .args .values .now) i 0 }
 
-  earlier : (r : Walked) → c .backward-from .result ≡ r → WithinBack (c .before .before .before .loop .place) r
-  earlier r e =
-      let a = c .before .before .before .before .before .before .before .before .before .args in
-      let l = c .before .before .before .loop in
-      back-within (on (getD (a .values .now) (l .i) 0)) (l .place) r (sym e ∙ c .backward-from .ensures)
+  abbrev judged : Verdict
+  judged = on (getD (start .args .values .now) i 0) at
 
-enum-known-q : tie.Need-enum-known-q Inv-loop μ-loop
-enum-known-q c = search needs
+  -- a turn whose verdict is r
+  turn : (r : Verdict) → judged ≡ r → let a = start .args in
+      told behind on (length gs) (a .values .now)
+      ≡ toldBy behind on (afterBack r at (walkBack (on (getD (a .values .now) i 0)) at)) (drop (i + 1) (a .values .now))
+  turn r t =
+      c .before .before .before .before .loop .inv .1
+      ∙ back-turn on i (start .args .values .now) (omega arith) place at r (omega arith) t
+
+  skipped : judged ≡ Skip → told behind on (length gs) (start .args .values .now) ≡ told behind on at (drop i (start .args .values .now))
+  skipped t =
+      c .before .before .before .before .loop .inv .1
+      ∙ back-skip on i (start .args .values .now) (omega arith) place at (omega arith) t
+
+mul-value : tie.Need-mul-value Inv-loop μ-loop
+mul-value c = search needs
+
+shared-slice-read-value : tie.Need-shared-slice-read-value Inv-loop μ-loop
+shared-slice-read-value c = search needs
+
+on-rest-requires : tie.Need-on-rest-requires Inv-loop μ-loop
+on-rest-requires c κs = search needs
+
+-- what the rest says is the verdict
+rest : (c : tie.After-on-rest Inv-loop μ-loop) → judged (c .before .before .before) ≡ c .on-rest .result
+rest c =
+    let d = c .before .before .before in
+    let a = start d .args in
+    judged-rest (matcher d) (sign d) (a .syllable) (a .sets .now) (gs d) (at d) (d .before .read .result) (d .is-skip-yes .result)
+    (c .on-rest .result) (d .before .read .ensures) (d .is-skip-yes .ensures)
+    (not-true (d .is-skip-yes .result) (c .before .before .if2 .taken)) (c .on-rest .ensures)
+
+enum-told : tie.Need-enum-told Inv-loop μ-loop
+enum-told c = search needs
 
 add-i : tie.Need-add-i Inv-loop μ-loop
-add-i c = search needs
+add-i c = let d = c .before .before .before .before .before in omega (arith, few (start d), d .before .before .before .loop-test .taken)
 
 loop-less : tie.Need-loop-less Inv-loop μ-loop
 loop-less c = search needs
 
 loop-again : tie.Need-loop-again Inv-loop μ-loop
-loop-again c = (
-  let l = earlier (c .before .before .before) (Found (c .before .q .given .0 .0)) (c .before .q .given .1) in omega arith,
-  whole (c .before .before .before) (Found (c .before .q .given .0 .0)) (c .before .q .given .1),
-)
+loop-again c = let o = c .before .before in (omega arith, turn (o .before .before .before) Match (rest o ∙ c .enum-told .given .1))
 
-enum-known-extent : tie.Need-enum-known-extent Inv-loop μ-loop
-enum-known-extent c = search needs
+enum-told-2 : tie.Need-enum-told-2 Inv-loop μ-loop
+enum-told-2 c = search needs
 
-returns : tie.Need-returns Inv-loop μ-loop
-unfolding backOn
-returns c = let w = c .before .before .before in rw (← w .before .before .before .before .before .matcher-of .ensures) (sym (whole w _ (c .before .extent .given .1)))
-
-enum-known-extent-2 : tie.Need-enum-known-extent-2 Inv-loop μ-loop
-enum-known-extent-2 c = search needs
+back-extent-requires : tie.Need-back-extent-requires Inv-loop μ-loop
+back-extent-requires c κs = search needs
 
 returns-2 : tie.Need-returns-2 Inv-loop μ-loop
 unfolding backOn
-returns-2 c = let w = c .before .before .before in rw (← w .before .before .before .before .before .matcher-of .ensures) (sym (whole w _ (c .before .extent2 .given .1)))
+returns-2 c = let o = c .before .before .before in
+    let d = o .before .before .before in
+    rw (← d .before .before .before .before .before .before .matcher-of .ensures)
+    (ap ContextMatch.Lost (c .back-extent .ensures) ∙ sym (turn d NotMatch (rest o ∙ c .before .enum-told2 .given .1)))
 
-enum-told : tie.Need-enum-told Inv-loop μ-loop
-enum-told c = search needs
+enum-told-3 : tie.Need-enum-told-3 Inv-loop μ-loop
+enum-told-3 c = search needs
+
+loop-less-2 : tie.Need-loop-less-2 Inv-loop μ-loop
+loop-less-2 c = search needs
+
+loop-again-2 : tie.Need-loop-again-2 Inv-loop μ-loop
+loop-again-2 c = let o = c .before .before in (omega arith, skipped (o .before .before .before) (rest o ∙ c .enum-told3 .given .1))
+
+loop-less-3 : tie.Need-loop-less-3 Inv-loop μ-loop
+loop-less-3 c = search needs
+
+loop-again-3 : tie.Need-loop-again-3 Inv-loop μ-loop
+loop-again-3 c = let d = c .before in
+    let a = start d .args in (
+      omega arith,
+      skipped d
+          (judged-yes (matcher d) (sign d) (a .syllable) (a .sets .now) (gs d) (at d) (d .before .read .result) (d .is-skip-yes .result)
+          (d .before .read .ensures) (d .is-skip-yes .ensures) (not-false (d .is-skip-yes .result) (c .if2 .left))),
+    )
 
 returns-3 : tie.Need-returns-3 Inv-loop μ-loop
-returns-3 c = absurd (earlier (c .before .before) Refused (c .enum-told .given .1))
-
-returns-4 : tie.Need-returns-4 Inv-loop μ-loop
 unfolding backOn
-returns-4 c = let a = c .before .before .before .before .before .before .before .args in
+returns-3 c =
+    let a = c .before .before .before .before .before .before .before .args in
     let l = c .before .loop in
-    rw (← c .before .before .before .matcher-of .ensures)
-    (sym (l .inv .1 ∙ told-end behind (judge (c .before .before .before .matcher-of .result) (a .sets .now) (a .test) (a .syllable) (glyphsOf (a .row .now))) (l .place) (l .i) (a .values .now) (omega arith)))
+    let m = c .before .before .before .matcher-of in
+    rw (← m .ensures)
+    (sym (l .inv .1 ∙ told-end behind (judge (m .result) (a .sets .now) (a .test) (a .syllable) (glyphsOf (a .row .now))) (l .place) (l .i) (a .values .now) (omega arith)))
 
 pub backtrack-spec : {M : Type 1} → statement M
 backtrack-spec =
@@ -116,17 +186,23 @@ backtrack-spec =
     matcher-of-requires
     count-requires
     loop-holds
-    mul-t14
-    shared-slice-read-t17
-    backward-from-requires
-    enum-known-q
+    returns
+    sub-place
+    read-requires
+    is-skip-yes-requires
+    mul-value
+    shared-slice-read-value
+    on-rest-requires
+    enum-told
     add-i
     loop-less
     loop-again
-    enum-known-extent
-    returns
-    enum-known-extent-2
+    enum-told-2
+    back-extent-requires
     returns-2
-    enum-told
-    returns-3
-    returns-4)
+    enum-told-3
+    loop-less-2
+    loop-again-2
+    loop-less-3
+    loop-again-3
+    returns-3)

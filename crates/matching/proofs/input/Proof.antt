@@ -1,4 +1,4 @@
--- The matcher and what is searched are the lookup's. Assumes nothing.
+-- The matcher and what is searched are the lookup's; the slots that are lent hold nothing yet. Assumes nothing.
 use Rattle.matching.specs.Matchers.{inputOn}
 use borrow.Author.Needs.{needs}
 use Rattle.matching.proofs.input.Statement.{statement}
@@ -13,10 +13,21 @@ searched-row-requires c κs = search needs
 take-input-requires : tie.Need-take-input-requires
 take-input-requires c κs = search needs
 
+count-of-requires : tie.Need-count-of-requires
+count-of-requires c κs = search needs
+
 returns : tie.Need-returns
 unfolding inputOn
-returns c = rw (← c .before .before .matcher-of .ensures, ← c .before .searched-row .ensures) (c .take-input .ensures)
+returns c =
+    rw (c .count-of .ensures, ← c .before .before .before .before .matcher-of .ensures, ← c .before .before .before .searched-row .ensures)
+    (c .before .take-input .ensures)
 
 pub input-spec : {M : Type 1} → statement M
 input-spec =
-    tie.close (tie.spec matcher-of-requires searched-row-requires take-input-requires returns)
+    tie.close
+    (tie.spec
+    matcher-of-requires
+    searched-row-requires
+    take-input-requires
+    count-of-requires
+    returns)

@@ -16,7 +16,8 @@ use Rattle.walk.specs.declared.Walked.the-variants.{Found, Stopped, RanOut, Ref
 use Rattle.walk.specs.Parts.{raised}
 use Rattle.matching.specs.Take.{ahead}
 use Rattle.matching.specs.Matchers.{judge, aheadOn}
-use Rattle.matching.specs.Going.{told, toldBy, told-on, told-end, Within, walk-within, walk-part}
+use Rattle.matching.specs.Going.{told, toldBy, told-on, told-end}
+use Rattle.matching.specs.Onward.{Within, walk-within, walk-part}
 use Rattle.matching.proofs.lookahead.Statement.{statement}
 use Rattle.matching.proofs.lookahead.Tie as tie
 

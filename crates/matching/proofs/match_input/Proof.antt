@@ -1,11 +1,12 @@
 -- A call that isn't refused has its parts in their rows. Assumes nothing.
 use Prim.Native.Nat.{_<_}
-use mathlib.Core.Path.{_≡_, sym, ap, _∙_}
+use mathlib.Core.Path.{_≡_, refl, sym, ap, _∙_}
 use native.Mathlib.Omega.{arith}
 use lib.ListN.{length}
 use lib.Seq.{length-take-le}
 use Rattle.glyph.specs.Glyph.{glyphsOf}
 use Rattle.matching.specs.Take.{slots}
+use Rattle.matching.specs.Matchers.{inputOn}
 use Rattle.matching.specs.Calls.{inputOf}
 use Rattle.matching.specs.Accepted.{Good, input-good}
 use borrow.Author.Needs.{needs}
@@ -41,16 +42,38 @@ first-requires c κs = good c .0 .before
 first-requires-2 : tie.Need-first-requires-2
 first-requires-2 c κs = good (c .before) .0 .within
 
-input-requires : tie.Need-input-requires
-input-requires c κs = let s = c .before .before .before .before .before .before .before .before .before in
-    let g = good (c .before .before) in
+matcher-of-requires : tie.Need-matcher-of-requires
+matcher-of-requires c κs = search needs
+
+searched-row-requires : tie.Need-searched-row-requires
+searched-row-requires c κs = search needs
+
+take-input-requires : tie.Need-take-input-requires
+take-input-requires c κs =
+    let f = c .before .before .before .before in
+    let s = f .before .before .before .before .before .before .before .before .before in
+    let g = good (f .before .before) in
     let gs = glyphsOf (s .args .coming .now) in
-    let whole : length (glyphsOf (c .first2 .result .now)) ≡ s .args .len = ap length (c .first2 .ensures) ∙ length-take-le (s .args .len) gs (g .0 .within) in
-    (omega (arith, g .0 .cursor), omega (arith, g .0 .within, g .0 .short), g .1)
+    let whole : length (glyphsOf (f .first2 .result .now)) ≡ s .args .len = ap length (f .first2 .ensures) ∙ length-take-le (s .args .len) gs (g .0 .within) in
+    ((omega (arith, whole, g .0 .cursor), omega (arith, whole, g .0 .within, g .0 .short), g .1), refl)
+
+count-of-requires : tie.Need-count-of-requires
+count-of-requires c κs = good (c .before .before .before .before .before .before .before) .1
 
 returns-2 : tie.Need-returns-2
-unfolding inputOf
-returns-2 c = rw (← c .before .before .before .before .before .input-fit .ensures, c .before .before .before .enum-told .given .1, ← c .before .first2 .ensures, ← c .before .before .first .ensures) (c .input .ensures)
+unfolding inputOf inputOn
+returns-2 c =
+    let f = c .before .before .before .before .before .before in
+    rw (
+      c .count-of .ensures,
+      ← f .before .before .before .before .input-fit .ensures,
+      f .before .before .enum-told .given .1,
+      ← f .first2 .ensures,
+      ← f .before .first .ensures,
+      ← c .before .before .before .before .matcher-of .ensures,
+      ← c .before .before .before .searched-row .ensures,
+    )
+    (c .before .take-input .ensures)
 
 pub match-input-spec : {M : Type 1} → statement M
 match-input-spec =
@@ -63,5 +86,8 @@ match-input-spec =
     enum-told
     first-requires
     first-requires-2
-    input-requires
+    matcher-of-requires
+    searched-row-requires
+    take-input-requires
+    count-of-requires
     returns-2)
