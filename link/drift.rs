@@ -1,7 +1,8 @@
-//! Checks that include/conchibaru.h and bindings/rust/src say the same as crates/desk/src: every call with each argument's name and
-//! type in order, every struct with its fields, every number that has a name. Each of the three is read into one normal form.
+//! Checks that include/conchibaru.h and bindings/rust/src say the same as crates/desk/src and crates/numbers/src: every call with each
+//! argument's name and type in order, every struct with its fields, every number that has a name. Each of the three is read into one
+//! normal form.
 //!
-//!     drift HEADER DESK-FOLDER CRATE-FOLDER
+//!     drift HEADER DESK-FOLDER NUMBERS-FOLDER CRATE-FOLDER
 //!
 //! It also tries itself: each word of a declaration, in each of the three, is changed alone, and the change must be noticed.
 use std::collections::{BTreeMap, BTreeSet};
@@ -481,9 +482,11 @@ fn folder(path: &str, ending: &str) -> String {
 
 fn main() {
     let arguments: Vec<String> = std::env::args().skip(1).collect();
-    let [header, desk, krate] = &arguments[..] else { panic!("usage: drift HEADER DESK-FOLDER CRATE-FOLDER") };
+    let [header, desk, numbers, krate] = &arguments[..] else {
+        panic!("usage: drift HEADER DESK-FOLDER NUMBERS-FOLDER CRATE-FOLDER")
+    };
     let header = ("conchibaru.h", words(&without_directives(&file(header))), read_header as Read);
-    let desk = ("crates/desk", words(&folder(desk, "rt")), read_desk as Read);
+    let desk = ("crates/desk", words(&(folder(desk, "rt") + &folder(numbers, "rt"))), read_desk as Read);
     let krate = ("bindings/rust", words(&folder(krate, "rs")), read_crate as Read);
     let mut read = Vec::new();
     for (name, words, reader) in [&header, &desk, &krate] {
