@@ -63,6 +63,23 @@ pub filled-all : (out L : List ℕ) (j : ℕ) → length out ≡ slots → slots
 filled-all out L j n h few f =
     ext-getD 0 out (slotted L) (let e = length-replicate {A = ℕ} (slots - length L) 0 in simp length-append (omega arith)) (λ k l. f k (omega arith) ∙ sym (slotted-at L k))
 
+-- those that no turn has come to are 0 still
+pub none-at : (k : ℕ) → getD (slotted []) k 0 ≡ 0
+none-at k = slotted-at [] k
+
+pub none-more : (out : List ℕ) (j v : ℕ) → ((k : ℕ) → j ≤ k → getD out k 0 ≡ 0) → (k : ℕ) → j + 1 ≤ k → getD (set out j v) k 0 ≡ 0
+none-more out j v f k l = getD-set-other out j k v 0 (λ q. let z : ⊥ = omega arith in absurd z) ∙ f k (omega arith)
+
+-- so it is enough to fill as many as there are positions
+pub filled-few : (out L : List ℕ) (j : ℕ) → length out ≡ slots → length L ≤ j → length L ≤ slots → ((k : ℕ) → k < j → getD out k 0 ≡ getD L k 0)
+    → ((k : ℕ) → j ≤ k → getD out k 0 ≡ 0) → out ≡ slotted L
+filled-few out L j n h few f g =
+    filled-all out L slots n (omega arith) few
+    (λ k l. elim (decLt k j) [
+      | yes b ↦ f k b
+      | no b ↦ g k (omega arith) ∙ sym (List·getD-eq-default L 0 {n = k} (omega arith))
+    ])
+
 -- ---- a gain
 
 following-at : (p n k : ℕ) → k < n → getD (following p n) k 0 ≡ p + suc k
@@ -183,8 +200,14 @@ module _ (at : List ℕ) (count i n : ℕ) (p : Placed at count) (h : i < count)
   pub gain-few : count + n ≤ slots → length (gained i n (take count at)) ≤ slots
   gain-few l = omega (arith, length-gained i n ps (omega (arith, size-is)), size-is)
 
+  pub gain-long : length (gained i n (take count at)) ≡ count + n
+  gain-long = omega (arith, length-gained i n ps (omega (arith, size-is)), size-is)
+
   pub loss-few : n ≤ count - (i + 1) → length (lost i n (take count at)) ≤ slots
   loss-few k = omega (arith, length-lost i n ps (omega (arith, size-is)) (omega (arith, size-is)), size-is, p .few)
+
+  pub loss-long : n ≤ count - (i + 1) → length (lost i n (take count at)) ≡ count - n
+  loss-long k = omega (arith, length-lost i n ps (omega (arith, size-is)) (omega (arith, size-is)), size-is)
 
 module _ (idx d : ℕ) (places : List ℕ) (count : ℕ) (all : length places ≡ slots) (few : count ≤ slots) where
   many : length (take count places) ≡ count

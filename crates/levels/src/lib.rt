@@ -86,9 +86,10 @@ fn gained_slots(at: &[u16; 64], i: usize, n: usize, count: usize) -> [u16; 64]
     requires { ⌜ Placed (now at) count × (i < count) × (count + n ≤ 64) ⌝ }
     ensures { λ r. ⌜ r ≡ slotted (gained i n (take count (now (at .entry)))) ⌝ }
 {
+    let all = count + n;
     let mut out = [0u16; 64];
     let mut j = 0;
-    while j < SLOTS {
+    while j < all {
         out[j] = gained_slot(at, i, n, count, j);
         j += 1;
     }
@@ -116,9 +117,10 @@ fn lost_slots(at: &[u16; 64], i: usize, n: usize, count: usize) -> [u16; 64]
     requires { ⌜ Placed (now at) count × (i < count) × (n ≤ count - (i + 1)) ⌝ }
     ensures { λ r. ⌜ r ≡ slotted (lost i n (take count (now (at .entry)))) ⌝ }
 {
+    let all = count - n;
     let mut out = [0u16; 64];
     let mut j = 0;
-    while j < SLOTS {
+    while j < all {
         out[j] = lost_slot(at, i, n, count, j);
         j += 1;
     }
@@ -145,7 +147,7 @@ pub fn open(places: &[u16; 64], count: usize, end: usize, idx: usize, d: usize) 
 {
     let mut out = [0u16; 64];
     let mut j = 0;
-    while j < SLOTS {
+    while j < count {
         out[j] = opened_slot(places, count, idx, d, j);
         j += 1;
     }
