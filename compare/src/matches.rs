@@ -7,6 +7,7 @@ use crate::kinds::Comparison;
 use crate::ours::{self, Answer};
 use crate::paper;
 use crate::paper::matchers::{self, By};
+use crate::progress::grouped;
 use crate::random::Random;
 use crate::summary::Summary;
 use crate::trials::Trial;
@@ -133,15 +134,16 @@ impl Asker {
         }
         self.summary.note(format!(
             "{} with three answers: the original's, ours and that of 01",
-            self.with_original
+            grouped(self.with_original)
         ));
         self.summary.note(format!(
             "{} that no refusal stops, of texts that the original can't hold: compared with 01 alone",
-            self.without_original
+            grouped(self.without_original)
         ));
         self.summary.note(format!(
             "{} input matches with the original's total, {} where it can't hold the counts: their total is compared with 01 alone",
-            self.with_total, self.without_total
+            grouped(self.with_total),
+            grouped(self.without_total)
         ));
     }
 

@@ -9,6 +9,7 @@ pub mod corners;
 use crate::kinds::Comparison;
 use crate::ours::{self, CMatched, CRan};
 use crate::paper::runs::{self, Asked, By, Ran, ROW, ROW_WORDS};
+use crate::progress::grouped;
 use crate::random::Random;
 use crate::summary::Summary;
 use crate::trials::Trial;
@@ -249,11 +250,11 @@ impl Asker {
         let deep: u64 = self.levels[6..].iter().sum();
         let deepest = self.levels.iter().rposition(|&count| count > 0).unwrap_or(0);
         for note in [
-            format!("{} with three answers: the original's, ours and that of 01", self.with_original),
-            format!("{} accepted runs over texts that the original can't hold: compared with 01 alone", self.without_original),
-            format!("put back after the original in {} runs: {} written glyphs with other props or ligature numbers", self.runs_put_back, self.put_back.glyphs),
-            format!("put back among these: {} times kind 2 with two results or more on a ligature", self.put_back.on_ligatures),
-            format!("{} nested lookups tried, at most {} in a run; texts to {} glyphs", self.spent, self.most_spent, self.longest),
+            format!("{} with three answers: the original's, ours and that of 01", grouped(self.with_original)),
+            format!("{} accepted runs over texts that the original can't hold: compared with 01 alone", grouped(self.without_original)),
+            format!("put back after the original in {} runs: {} written glyphs with other props or ligature numbers", grouped(self.runs_put_back), grouped(self.put_back.glyphs)),
+            format!("put back among these: {} times kind 2 with two results or more on a ligature", grouped(self.put_back.on_ligatures)),
+            format!("{} nested lookups tried, at most {} in a run; texts to {} glyphs", grouped(self.spent), self.most_spent, self.longest),
             format!("levels in one another: 1 to 5 in {:?} runs, 6 and more in {deep}, at most {deepest}", &self.levels[1..6]),
             "Short and Full rest on the hook round the original's lookups (original/src/asked/hook.rs), not on the Rust alone".to_string(),
         ] {

@@ -222,11 +222,11 @@ impl Asker {
     fn count_clauses(&mut self) {
         self.summary.note(format!(
             "{} with three answers: the original's, our program's and that of 01",
-            self.with_original
+            grouped(self.with_original)
         ));
         self.summary.note(format!(
             "{} matches of texts that the original can't hold: compared with 01 alone",
-            self.without_original
+            grouped(self.without_original)
         ));
         // Of the matchers' clauses those that a tape can meet: it asks for input alone.
         for (name, times) in NAMES.iter().zip(self.by).filter(|entry| entry.1 > 0) {
