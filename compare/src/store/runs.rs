@@ -18,7 +18,8 @@ use super::{Line, List};
 use crate::paper::runs::{By, NAMES};
 use crate::random::Random;
 use crate::runs::corners::{at_the_limit, cards};
-use crate::runs::{draw_book, draw_case, draw_setup, style, Case, Style};
+use crate::runs::draw::{draw_book, draw_case, draw_setup, style, Style};
+use crate::runs::Case;
 use original::hook::Mode;
 use original::runs::Book;
 
