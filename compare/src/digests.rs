@@ -66,6 +66,7 @@ pub struct Asked {
 
 /// The masks afterwards, and yes or no where that is asked.
 pub type DigestTrial = Trial<Asked, ([u64; 3], Option<bool>)>;
+pub type RuleTrial = Trial<AskedRule, (u64, Option<bool>)>;
 
 pub fn ask(before: &Known, step: Step) -> Asked {
     let mut digest = before.digest.clone();
@@ -258,6 +259,7 @@ const RULE: [&str; 7] = [
 ];
 
 /// A step on the small digest with what the original made of it.
+#[derive(Clone)]
 pub struct AskedRule {
     pub before: u64,
     pub step: RuleStep,
@@ -292,7 +294,7 @@ impl AskedRule {
         (digest.0, yes)
     }
 
-    fn compare(&self, summary: &mut Summary) {
+    fn compare(&self, summary: &mut Summary, trial: Option<&'static RuleTrial>) {
         summary.decided(match (self.step, self.yes, self.before == self.after) {
             (RuleStep::New | RuleStep::Full, ..) => RULE[0],
             (RuleStep::Add(_), _, false) => RULE[1],
@@ -303,7 +305,8 @@ impl AskedRule {
             (RuleStep::MayHave(_), ..) => RULE[6],
         });
         let shown = || format!("rule {:X?} on {:X}", self.step, self.before);
-        summary.compare(&(self.after, self.yes), &self.ours(), || None, shown);
+        let ours = trial.map_or_else(|| self.ours(), |trial| trial.answer(self, AskedRule::ours));
+        summary.compare(&(self.after, self.yes), &ours, || None, shown);
     }
 }
 
@@ -480,7 +483,8 @@ pub fn lacking_rule() -> impl Iterator<Item = AskedRule> {
 
 /// Every range over the end points, and every glyph up to 4,096 and from
 /// 2^32 - 4,096, on each start; and each bit that is lacking.
-fn exhaustive(summary: &mut Summary, trial: Option<&'static DigestTrial>) {
+fn exhaustive(summary: &mut Summary, trials: Trials) {
+    let Trials(trial, rule_trial) = trials;
     let points = end_points();
     for start in starts() {
         for &a in &points {
@@ -502,22 +506,34 @@ fn exhaustive(summary: &mut Summary, trial: Option<&'static DigestTrial>) {
     }
     for asked in lacking_rule() {
         summary.input("the one bit that is lacking");
-        asked.compare(summary);
+        asked.compare(summary, rule_trial);
     }
     for value in 0..=256 {
         summary.input("rule values to 256");
-        ask_rule(&mut RuleDigest::new(), RuleStep::Add(value)).compare(summary);
+        ask_rule(&mut RuleDigest::new(), RuleStep::Add(value)).compare(summary, rule_trial);
     }
 }
 
+/// Of the digest of three masks, and of that of one.
+#[derive(Clone, Copy)]
+struct Trials(Option<&'static DigestTrial>, Option<&'static RuleTrial>);
+
 pub struct Digests {
     pub summary: Summary,
-    trial: Option<&'static DigestTrial>,
+    trials: Trials,
 }
 
 impl Digests {
+    fn under(trials: Trials) -> Self {
+        Self { summary: Summary::new("digests", &clauses()), trials }
+    }
+
     pub fn new(trial: Option<&'static DigestTrial>) -> Self {
-        Self { summary: Summary::new("digests", &clauses()), trial }
+        Self::under(Trials(trial, None))
+    }
+
+    pub fn of_rules(trial: Option<&'static RuleTrial>) -> Self {
+        Self::under(Trials(None, trial))
     }
 }
 
@@ -527,7 +543,7 @@ pub fn comparison() -> Box<dyn Comparison> {
 
 impl Comparison for Digests {
     fn exhaust(&mut self) {
-        exhaustive(&mut self.summary, self.trial);
+        exhaustive(&mut self.summary, self.trials);
     }
 
     fn draw(&mut self, steps: u64, seed: u64) {
@@ -536,10 +552,10 @@ impl Comparison for Digests {
         for step in 0..steps {
             if step % 8 == 0 {
                 self.summary.input("random steps on one mask");
-                source.next_rule().compare(&mut self.summary);
+                source.next_rule().compare(&mut self.summary, self.trials.1);
             } else {
                 self.summary.input("random steps on three masks");
-                source.next().compare(&mut self.summary, self.trial);
+                source.next().compare(&mut self.summary, self.trials.0);
             }
         }
     }

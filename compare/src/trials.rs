@@ -62,6 +62,8 @@ pub fn run(steps: u64, seed: u64) -> i32 {
     let mut tried = Tried { steps, seed, trials: 0, failed: 0 };
     tried.kind("digests", small::digests(), digests::Digests::new, |it| &mut it.summary);
     tried
+        .kind("digests of rules", small::rules(), digests::Digests::of_rules, |it| &mut it.summary);
+    tried
         .kind("allowances", small::allowances(), allowances::Allowances::new, |it| &mut it.summary);
     tried.kind("walks", walks::trials(), crate::walks::Asker::new, |it| &mut it.summary);
     tried.kind("matches", matches::trials(), crate::matches::Asker::new, |it| &mut it.summary);

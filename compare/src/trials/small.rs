@@ -1,6 +1,6 @@
 //! Ways for digests and allowances to be wrong.
 use crate::allowances::{self, AllowanceTrial};
-use crate::digests::{DigestTrial, Step, SHIFTS};
+use crate::digests::{DigestTrial, RuleStep, RuleTrial, Step, SHIFTS};
 
 pub fn digests() -> Vec<DigestTrial> {
     vec![
@@ -74,6 +74,37 @@ pub fn digests() -> Vec<DigestTrial> {
 
 fn masks_bit(mask: u64, bit: u32) -> bool {
     mask >> (bit & 63) & 1 != 0
+}
+
+/// Of the digest of one mask.
+pub fn rules() -> Vec<RuleTrial> {
+    vec![
+        RuleTrial::asked("a value has five bits", |asked| {
+            if let RuleStep::Add(value) | RuleStep::MayHave(value) = &mut asked.step {
+                *value &= 31;
+            }
+        }),
+        RuleTrial::answered("adding forgets what was there", |asked, (mask, _)| {
+            if let RuleStep::Add(_) = asked.step {
+                *mask &= !asked.before;
+            }
+        }),
+        RuleTrial::answered("a new one is full", |asked, (mask, _)| {
+            if let RuleStep::New = asked.step {
+                *mask = u64::MAX;
+            }
+        }),
+        RuleTrial::answered("63 bits are full", |asked, (_, yes)| {
+            if let RuleStep::IsFull = asked.step {
+                *yes = Some(asked.before.count_ones() >= 63);
+            }
+        }),
+        RuleTrial::answered("it may have everything", |asked, (_, yes)| {
+            if let RuleStep::MayHave(_) = asked.step {
+                *yes = Some(true);
+            }
+        }),
+    ]
 }
 
 pub fn allowances() -> Vec<AllowanceTrial> {
