@@ -358,7 +358,9 @@ impl Abuse {
         let written = tape.clone();
         let ended = fed(child, move |input| {
             for piece in written.chunks(written.len() / 10 + 1) {
-                let _ = input.write_all(piece);
+                if input.write_all(piece).is_err() {
+                    return; // it is gone, and its number may be another's
+                }
                 sleep(Duration::from_millis(20));
                 unsafe { kill(process, SIGSTOP) };
                 sleep(Duration::from_millis(20));
