@@ -1,6 +1,6 @@
 //! Glyphs, lookups and mark sets, drawn so that every clause decides often.
 use crate::random::Random;
-use original::glyphs::Glyph;
+use original::glyphs::{Glyph, SUBSTITUTED};
 use original::terms::{Setup, Test};
 
 /// Few, so that values are met; some are as wide as a set's glyph or wider,
@@ -50,6 +50,15 @@ pub fn row(random: &mut Random, glyphs: usize) -> Vec<Glyph> {
 
 pub fn words(row: &[Glyph]) -> Vec<u32> {
     row.concat()
+}
+
+pub fn glyphs(words: &[u32]) -> Vec<Glyph> {
+    words.chunks(4).map(|word| [word[0], word[1], word[2], word[3]]).collect()
+}
+
+/// The glyph without the bit that means something to the original alone.
+pub fn without_substituted(&[id, mask, word2, word3]: &Glyph) -> Glyph {
+    [id, mask, word2 & !SUBSTITUTED, word3]
 }
 
 pub fn sets(random: &mut Random) -> Vec<u16> {

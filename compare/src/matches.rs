@@ -11,7 +11,7 @@ use crate::progress::grouped;
 use crate::random::Random;
 use crate::summary::Summary;
 use crate::trials::Trial;
-use original::glyphs::{Glyph, SUBSTITUTED};
+use original::glyphs::Glyph;
 use original::matches::{with_text, Held, Text};
 use original::terms::{Call, Matched, May, Role, Setup, Testing, TESTINGS};
 
@@ -48,9 +48,7 @@ impl Case {
 
     /// The text without the bit that means something to the original alone.
     pub fn without_substituted(&self) -> Self {
-        let clear = |row: &[Glyph]| -> Vec<Glyph> {
-            row.iter().map(|g| [g[0], g[1], g[2] & !SUBSTITUTED, g[3]]).collect()
-        };
+        let clear = |row: &[Glyph]| row.iter().map(draw::without_substituted).collect();
         Self { done: clear(&self.done), coming: clear(&self.coming), ..self.clone() }
     }
 }

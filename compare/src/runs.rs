@@ -8,6 +8,8 @@ pub mod corners;
 mod damage;
 pub mod draw;
 
+use self::draw::{draw_book, draw_case, draw_setup, style, Style};
+use crate::draw::glyphs;
 use crate::kinds::Comparison;
 use crate::ours::{self, CMatched, CRan};
 use crate::paper::runs::{self, Asked, By, Ran, ROW, ROW_WORDS};
@@ -16,7 +18,6 @@ use crate::random::Random;
 use crate::summary::Summary;
 use crate::trials::Trial;
 use damage::damage;
-use draw::{draw_book, draw_case, draw_setup, style, Style};
 use original::glyphs::Glyph;
 use original::hook::{Mode, PutBack};
 use original::runs::{Book, Run};
@@ -90,9 +91,6 @@ impl Case {
     /// The original's answer, if it holds the text; of cases that the paper
     /// doesn't refuse.
     pub fn original(&self, book: &Book, mode: Mode) -> Option<(original::runs::Ran, PutBack)> {
-        let glyphs = |words: &[u32]| -> Vec<Glyph> {
-            words.chunks(4).map(|word| [word[0], word[1], word[2], word[3]]).collect()
-        };
         book.run(Run {
             records: &self.records,
             allowance: self.allowance,
@@ -199,9 +197,6 @@ pub fn both(case: &Case, mode: Mode) -> (String, String) {
     if ![0, 8, 9, 10].contains(&number) {
         return (told, format!("{number}"));
     }
-    let glyphs = |words: &[u32]| -> Vec<Glyph> {
-        words.chunks(4).map(|word| [word[0], word[1], word[2], word[3]]).collect()
-    };
     let text = ids(&glyphs(&ours.done[..4 * d]), &glyphs(&ours.coming[4 * idx..]));
     let positions = &positions[..count];
     (told, format!("{number}, spent {spent}, positions {positions:?}, {text}"))

@@ -10,7 +10,7 @@ use crate::paper;
 use crate::random::Random;
 use crate::summary::Summary;
 use crate::trials::Trial;
-use original::glyphs::{Glyph, SUBSTITUTED};
+use original::glyphs::Glyph;
 use original::terms::{Role, Setup, Test, Walked, ROLES};
 use original::walks::{with_row, Row};
 
@@ -40,8 +40,7 @@ impl Case {
 
     /// The glyphs without the bit that means something to the original alone.
     pub fn without_substituted(&self) -> Vec<Glyph> {
-        let clear = |g: &Glyph| [g[0], g[1], g[2] & !SUBSTITUTED, g[3]];
-        self.glyphs.iter().map(clear).collect()
+        self.glyphs.iter().map(draw::without_substituted).collect()
     }
 
     fn ours(&self) -> ours::Row<'_> {

@@ -90,7 +90,6 @@ fn line(more: u32, case: &Case, question: &Question, answer: Answer, held: bool)
         Testing::Nothing => 2,
     };
     let setup = &case.setup;
-    let sets: Vec<u32> = setup.sets.iter().map(|&word| word.into()).collect();
     let line = Line::of(more + operation)
         .word(setup.gpos)
         .word(setup.auto_zwnj)
@@ -98,7 +97,7 @@ fn line(more: u32, case: &Case, question: &Question, answer: Answer, held: bool)
         .word(setup.per_syllable)
         .words(&[setup.mask, setup.props, test])
         .words(&[case.d as u32, case.len as u32, case.idx as u32, start as u32])
-        .list(&sets)
+        .narrow(&setup.sets)
         .list(&question.values)
         .list(&case.words[0])
         .list(&case.words[1]);

@@ -46,6 +46,11 @@ impl Line {
     pub fn list(self, words: &[u32]) -> Self {
         self.word(words.len() as u32).words(words)
     }
+    /// The same of words of 16 bits.
+    pub fn narrow(self, words: &[u16]) -> Self {
+        let wide: Vec<u32> = words.iter().map(|&word| word.into()).collect();
+        self.list(&wide)
+    }
     /// Numbers of 64 bits.
     pub fn wide(mut self, numbers: &[u64]) -> Self {
         self.0.extend(numbers.iter().flat_map(|&n| [(n >> 32) as u32, n as u32]));

@@ -106,7 +106,6 @@ impl Writer<'_> {
             return false;
         };
         decided.iter().for_each(|&why| self.by[why] += 1);
-        let wide = |words: &[u16]| -> Vec<u32> { words.iter().map(|&word| word.into()).collect() };
         let setup = &case.setup;
         let line = Line::of(50)
             .word(setup.auto_zwnj)
@@ -114,10 +113,10 @@ impl Writer<'_> {
             .word(setup.per_syllable)
             .words(&[setup.mask, case.allowance, case.depth as u32])
             .words(&[case.idx as u32, case.matched.end as u32, case.matched.total.into()])
-            .list(&wide(&case.matched.positions[..case.matched.count]))
-            .list(&wide(&setup.sets))
-            .list(&wide(&case.book))
-            .list(&wide(&case.records))
+            .narrow(&case.matched.positions[..case.matched.count])
+            .narrow(&setup.sets)
+            .narrow(&case.book)
+            .narrow(&case.records)
             .list(&case.done[..4 * case.d])
             .list(&case.coming[4 * case.idx..])
             .word(ran.ending)

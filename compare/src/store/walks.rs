@@ -19,7 +19,7 @@ use crate::draw;
 use crate::ours::Sign;
 use crate::random::Random;
 use crate::walks::{self, Case, Way};
-use original::glyphs::{Glyph, SUBSTITUTED};
+use original::glyphs::Glyph;
 use original::terms::{Role, Setup, Test, Walked, ROLES};
 use original::walks::{with_row, Row};
 
@@ -84,7 +84,7 @@ fn case(random: &mut Random, count: usize) -> Case {
     let case = walks::case(random, count);
     let clear = |g: &Glyph| match g[2] >> 24 & 1 {
         0 => *g,
-        _ => [g[0], g[1], g[2] & !SUBSTITUTED, g[3]],
+        _ => draw::without_substituted(g),
     };
     Case::new(case.setup, case.glyphs.iter().map(clear).collect(), case.len, case.syllable)
 }
@@ -120,7 +120,6 @@ impl<'a> Asked<'a> {
 
     fn question(&self, operation: u32, len: usize) -> Line {
         let setup = &self.case.setup;
-        let sets: Vec<u32> = setup.sets.iter().map(|&word| word.into()).collect();
         Line::of(operation)
             .word(setup.gpos)
             .word(setup.auto_zwnj)
@@ -132,7 +131,7 @@ impl<'a> Asked<'a> {
             .word(self.sign.value())
             .word(self.case.syllable)
             .words(&[self.place as u32, len as u32])
-            .list(&sets)
+            .narrow(&setup.sets)
             .list(&self.case.words)
     }
 
