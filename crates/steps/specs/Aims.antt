@@ -16,7 +16,7 @@ use Rattle.text.specs.Laws.{sizes}
 use Rattle.verdict.specs.declared.Test.{Test}
 use Rattle.matching.specs.declared.Lookup.{Lookup as Question}
 use Rattle.matching.specs.declared.InputMatch.{InputMatch}
-use Rattle.matching.specs.Take.{slots, ahead, behind, reached}
+use Rattle.matching.specs.Take.{slots, ahead, behind, takes, reached}
 use Rattle.matching.specs.Shift.{raisedAll}
 use Rattle.matching.specs.declared.ContextMatch.{ContextMatch}
 use Rattle.runs.specs.Repair.{Level}
@@ -57,6 +57,18 @@ module _ (q : Question) (sets : List ℕ) (C : List Glyph) (values wide : List �
   back-told syllable m b h k =
       k ∙ ap isFound h ∙ found-taken behind (length C) (backOn q sets Test.Equal C syllable (take (length values - 0) wide))
       ∙ ap (λ (v : List ℕ). isTaken (backOn q sets Test.Equal C syllable v)) (values-are wide values e)
+
+-- no values are always there
+module _ (q : Question) (sets : List ℕ) (C : List Glyph) where
+  pub no-ahead : (start syllable : ℕ) (values : List ℕ) → length values ≡ 0 → true ≡ isTaken (aheadOn q sets Test.Equal C start syllable values)
+  unfolding aheadOn takes
+  no-ahead start syllable [] e = refl
+  no-ahead start syllable (x ∷ xs) e = absurd (omega arith)
+
+  pub no-back : (syllable : ℕ) (values : List ℕ) → length values ≡ 0 → true ≡ isTaken (backOn q sets Test.Equal C syllable values)
+  unfolding backOn takes
+  no-back syllable [] e = refl
+  no-back syllable (x ∷ xs) e = absurd (omega arith)
 
 module _ (done coming : List ℕ) (p : Place) (f : Fits done coming p) (q : Question) (sets : List ℕ) (first : ℕ) (back input onward : List ℕ) (records : Part)
     (g : Glyph) (is : g ≡ getD (glyphsOf coming) (p .idx) blank) where

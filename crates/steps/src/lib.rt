@@ -332,6 +332,9 @@ fn is_ahead(
     ensures { λ r. ⌜ r ≡ isTaken (aheadOn q (now (sets .entry)) Test.Equal (glyphsOf (now (coming .entry))) start syllable (now (values .entry))) ⌝ }
 {
     let n = values.len();
+    if n == 0 {
+        return true;
+    }
     let wide = book::widen(values);
     is_found(matching::lookahead(coming, start, syllable, q, sets, Test::Equal, &wide[0..n]))
 }
@@ -342,6 +345,9 @@ fn is_behind(before: &[u32], syllable: u8, q: Lookup, sets: &[u16], values: &[u1
     ensures { λ r. ⌜ r ≡ isTaken (backOn q (now (sets .entry)) Test.Equal (glyphsOf (now (before .entry))) syllable (now (values .entry))) ⌝ }
 {
     let n = values.len();
+    if n == 0 {
+        return true;
+    }
     let wide = book::widen(values);
     is_found(matching::backtrack(before, syllable, q, sets, Test::Equal, &wide[0..n]))
 }
