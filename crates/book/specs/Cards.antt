@@ -1,4 +1,4 @@
--- Small books read by the definition: the lookups of K11 and K13, a chain, and what breaks a limit.
+-- Examples: small books read by the definition: the lookups of K11 and K13, a chain, and what breaks a limit.
 use mathlib.Core.Path.{_≡_, refl}
 use mathlib.Core.List.{List, [], _∷_}
 use Rattle.book.specs.Book.{recordsOf, Kind1, Kind2, Kind3, counted, bodyOf, firstOf, Reads, Unreadable, readLookups, readBook}

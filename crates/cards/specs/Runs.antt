@@ -1,4 +1,4 @@
--- Cards K11 to K14: runs of one record over three glyphs that end the row. Each answer is its number, the text's ids, the positions, and d with the
+-- Cards K11 to K14 of 01: runs of one record over three glyphs that end the row. Each answer is its number, the text's ids, the positions, and d with the
 -- number spent.
 use mathlib.Core.Bool.{false}
 use mathlib.Core.List.{List, [], _∷_, _++_, map}

@@ -1,4 +1,4 @@
--- What is told of a later glyph, from the definitions of `verdict` and `ligature`, and what it makes of the match.
+-- What is told of a later glyph, from the definitions of `verdict` and `ligature`, and what it makes of the match (01, port orders 3 and 5).
 use Prim.Native.Nat.{ℕ}
 use mathlib.Core.List.{List}
 use mathlib.Core.Bool.{Bool, cond}

@@ -1,4 +1,4 @@
--- Demand 2 of the three calls, past refusals 1, 2, 3 and 6, in the paper's numbers and values. Each call's contract says that its answer is
+-- Demand 2 of the three calls, past refusals 1, 2, 3 and 6, in the paper's numbers and values (01, "Nailing an answer down"). Each call's contract says that its answer is
 -- `inputOf`, `aheadOf` or `backOf`; here is what these are.
 use Prim.Native.Nat.{ℕ, _+_}
 use mathlib.Core.Path.{_≡_}

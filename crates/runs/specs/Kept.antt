@@ -1,4 +1,4 @@
--- What a run keeps to: the glyphs before a record's position are untouched, and every level stays sound over its text, so that no move leaves the text.
+-- What a run keeps to (01, "Records over a text"): the glyphs before a record's position are untouched, and every level stays sound over its text, so that no move leaves the text.
 -- A lookup at the cursor changes only what follows it, and a record's position is never before its level's first; so it goes from record to level and from depth to depth.
 use mathlib.Core.Path.{_≡_, refl, sym, ap, _∙_}
 use mathlib.Core.Bool.{Bool, true, false, cond, not, _&&_}

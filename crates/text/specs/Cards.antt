@@ -1,4 +1,4 @@
--- K11 and K13 on texts: lists of glyphs, and no offset.
+-- Examples: what K11 and K13 of 01 do to texts: lists of glyphs, and no offset.
 use mathlib.Core.Path.{_≡_, refl}
 use mathlib.Core.List.{List, [], _∷_, map}
 use Prim.Native.Nat.{ℕ}
