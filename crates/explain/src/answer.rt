@@ -50,7 +50,7 @@ fn lost(text: &mut [u8; ROOM], at: usize, extent: usize) -> usize {
     words::number(text, at, (extent % 65536) as u32)
 }
 
-pub fn in_words(text: &mut [u8; ROOM], m: InputMatch) {
+pub(crate) fn in_words(text: &mut [u8; ROOM], m: InputMatch) {
     let answer = m.answer;
     let places = m.positions;
     let at = words::say(text, 0, b"answer: ");
@@ -91,7 +91,7 @@ fn digits(text: &mut [u8; ROOM], from: usize, answer: &[u8]) -> usize {
     at
 }
 
-pub fn on_tape(text: &mut [u8; ROOM], answer: &[u8]) {
+pub(crate) fn on_tape(text: &mut [u8; ROOM], answer: &[u8]) {
     let at = words::say(text, 0, b"tape: ");
     let at = digits(text, at, answer);
     words::end(text, at);

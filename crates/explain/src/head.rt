@@ -89,7 +89,7 @@ fn sizes(text: &mut [u8; ROOM], mask: u32, done: usize, coming: usize, cursor: u
     words::end(text, at);
 }
 
-pub fn tell(text: &mut [u8; ROOM], line: u64, h: Head) {
+pub(crate) fn tell(text: &mut [u8; ROOM], line: u64, h: Head) {
     let s = h.settings;
     opening(text, line, s);
     lookup(text, h.props);
@@ -114,7 +114,7 @@ fn list(text: &mut [u8; ROOM], from: usize, values: &[u32]) -> usize {
     at
 }
 
-pub fn values(text: &mut [u8; ROOM], asked: &[u32]) {
+pub(crate) fn values(text: &mut [u8; ROOM], asked: &[u32]) {
     let at = words::say(text, 0, b"values:");
     let at = say_if(text, at, asked.len() == 0, b" none");
     let at = list(text, at, asked);
@@ -134,7 +134,7 @@ fn fault(text: &mut [u8; ROOM], at: usize, why: LineFault) -> usize {
     }
 }
 
-pub fn no_frame(text: &mut [u8; ROOM], line: u64, why: LineFault) {
+pub(crate) fn no_frame(text: &mut [u8; ROOM], line: u64, why: LineFault) {
     let at = line_of(text, line);
     let at = words::say(text, at, b": not a frame: ");
     let at = fault(text, at, why);

@@ -24,7 +24,7 @@ const MATCH: usize = 46;
 
 const VERDICT: usize = 54;
 
-pub fn titles(text: &mut [u8; ROOM]) {
+pub(crate) fn titles(text: &mut [u8; ROOM]) {
     let at = words::say(
         text,
         0,
@@ -54,7 +54,7 @@ fn opening(text: &mut [u8; ROOM], place: usize, g: Glyph) -> usize {
     class(text, at, g.props)
 }
 
-pub fn cursor(text: &mut [u8; ROOM], place: usize, g: Glyph) {
+pub(crate) fn cursor(text: &mut [u8; ROOM], place: usize, g: Glyph) {
     let at = opening(text, place, g);
     let at = words::pad(text, at, VERDICT);
     let at = words::say(text, at, b"the cursor: never tested");
@@ -168,7 +168,7 @@ fn asked(text: &mut [u8; ROOM], at: usize, due: u32, s: MaySkip, y: MayMatch) ->
 }
 
 // The row of a glyph that was tested for a value.
-pub fn tested(
+pub(crate) fn tested(
     text: &mut [u8; ROOM],
     place: usize,
     g: Glyph,
@@ -195,7 +195,7 @@ fn of_ligature(text: &mut [u8; ROOM], at: usize, g: Glyph) -> usize {
 }
 
 // The two glyphs that the ligature rule compares.
-pub fn compared(text: &mut [u8; ROOM], first: Glyph, this: Glyph) {
+pub(crate) fn compared(text: &mut [u8; ROOM], first: Glyph, this: Glyph) {
     let at = words::pad(text, 0, CLASS);
     let at = words::say(text, at, b"ligature/component: cursor glyph ");
     let at = of_ligature(text, at, first);
@@ -204,13 +204,13 @@ pub fn compared(text: &mut [u8; ROOM], first: Glyph, this: Glyph) {
     words::end(text, at);
 }
 
-pub fn unlike(text: &mut [u8; ROOM]) {
+pub(crate) fn unlike(text: &mut [u8; ROOM]) {
     let at = words::pad(text, 0, CLASS);
     let at = words::say(text, at, b"the cursor glyph isn't of that ligature");
     words::end(text, at);
 }
 
-pub fn no_base(text: &mut [u8; ROOM]) {
+pub(crate) fn no_base(text: &mut [u8; ROOM]) {
     let at = words::pad(text, 0, CLASS);
     let at = words::say(
         text,
@@ -221,7 +221,7 @@ pub fn no_base(text: &mut [u8; ROOM]) {
 }
 
 // The base that the ligature rule found in `done`, and whether it may be skipped.
-pub fn base(
+pub(crate) fn base(
     text: &mut [u8; ROOM],
     place: usize,
     g: Glyph,
@@ -239,14 +239,14 @@ pub fn base(
     words::end(text, at);
 }
 
-pub fn ran_out(text: &mut [u8; ROOM], due: u32) {
+pub(crate) fn ran_out(text: &mut [u8; ROOM], due: u32) {
     let at = words::say(text, 0, b"no glyph is left for the value ");
     let at = words::number(text, at, due);
     let at = words::say(text, at, b": the walk ran out");
     words::end(text, at);
 }
 
-pub fn rest(text: &mut [u8; ROOM], from: usize, len: usize) {
+pub(crate) fn rest(text: &mut [u8; ROOM], from: usize, len: usize) {
     if len <= from {
         return;
     }

@@ -10,25 +10,25 @@ pub const ROOM: usize = COLUMNS + 1;
 // What a number or a position takes in a list, at most: a blank and ten digits.
 const ENTRY: usize = 11;
 
-pub fn say(text: &mut [u8; ROOM], at: usize, words: &[u8]) -> usize {
+pub(crate) fn say(text: &mut [u8; ROOM], at: usize, words: &[u8]) -> usize {
     explaining::put(text, at, words)
 }
 
-pub fn number(text: &mut [u8; ROOM], at: usize, n: u32) -> usize {
+pub(crate) fn number(text: &mut [u8; ROOM], at: usize, n: u32) -> usize {
     let mut digits = [0u8; 20];
     let k = io::decimal(n as u64, &mut digits);
     explaining::put(text, at, &digits[..k])
 }
 
 // Eight hexadecimal digits.
-pub fn word(text: &mut [u8; ROOM], at: usize, n: u32) -> usize {
+pub(crate) fn word(text: &mut [u8; ROOM], at: usize, n: u32) -> usize {
     let mut digits = [0u8; 16];
     let k = io::hex(n as u64, 8, &mut digits);
     explaining::put(text, at, &digits[..k])
 }
 
 // Blanks up to a column.
-pub fn pad(text: &mut [u8; ROOM], at: usize, column: usize) -> usize {
+pub(crate) fn pad(text: &mut [u8; ROOM], at: usize, column: usize) -> usize {
     if column <= at {
         return at;
     }
@@ -41,7 +41,7 @@ pub fn pad(text: &mut [u8; ROOM], at: usize, column: usize) -> usize {
 }
 
 // A number whose last digit stands before a column.
-pub fn right(text: &mut [u8; ROOM], at: usize, column: usize, n: u32) -> usize {
+pub(crate) fn right(text: &mut [u8; ROOM], at: usize, column: usize, n: u32) -> usize {
     let mut digits = [0u8; 20];
     let k = io::decimal(n as u64, &mut digits);
     if column < k {
@@ -58,7 +58,7 @@ fn within(at: usize) -> usize
 }
 
 // The line is written, and the next one begins at its first column.
-pub fn end(text: &mut [u8; ROOM], at: usize) {
+pub(crate) fn end(text: &mut [u8; ROOM], at: usize) {
     let last = within(at);
     text[last] = b'\n';
     let size = last + 1;
@@ -67,7 +67,7 @@ pub fn end(text: &mut [u8; ROOM], at: usize) {
 }
 
 // Where there is no room for one more entry of a list, it goes on in a new line.
-pub fn room(text: &mut [u8; ROOM], at: usize) -> usize {
+pub(crate) fn room(text: &mut [u8; ROOM], at: usize) -> usize {
     if at <= COLUMNS - ENTRY {
         return at;
     }
