@@ -38,11 +38,11 @@ recordsOf (seq ∷ k ∷ rest) = record { seq = seq; lookup = k } ∷ recordsOf 
 
 -- a lookup, by its kind; the first number is its props
 pub data Lookup : Type 0 where
-  -- from, to
+  -- from, to (OpenType, chapter GSUB, type 1)
   Kind1 : ℕ → ℕ → ℕ → Lookup
-  -- from, ids
+  -- from, ids (type 2)
   Kind2 : ℕ → ℕ → List ℕ → Lookup
-  -- first id; backtrack, input and lookahead values; records
+  -- first id; backtrack, input and lookahead values, backtrack and lookahead from the nearest glyph outwards; records (types 5 and 6)
   Kind3 : ℕ → ℕ → List ℕ → List ℕ → List ℕ → List Record → Lookup
 
 -- a lookup, or none

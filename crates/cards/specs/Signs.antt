@@ -1,4 +1,4 @@
--- The four words of a card's glyph (01, "Glyphs and rows"): mask 1, syllable 0, no ligature, one component.
+-- The four words of a card's glyph (01, "A glyph in four words"): mask 1, syllable 0, no ligature, one component.
 use mathlib.Core.List.{List, [], _∷_}
 use Prim.Native.Nat.{ℕ, _+_, _*_}
 

@@ -54,12 +54,12 @@ unfoldable pub inputOn : Lookup → List ℕ → Test → List Glyph → List Gl
 inputOn lookup sets test done coming idx values =
     inputBy (inputMatcherOf lookup) sets test (searchedGlyphs (lookup .settings .table) done) coming idx values
 
--- from a start; the starting syllable is handed in
+-- from a start, the nearest value first; the starting syllable is handed in
 unfoldable pub aheadOn : Lookup → List ℕ → Test → List Glyph → ℕ → ℕ → List ℕ → Outcome
 aheadOn lookup sets test coming start syllable values =
     takes (ahead (length coming)) (judge (contextMatcherOf lookup) sets test syllable coming) anywhere start values
 
--- from the end of the backward row
+-- from the end of the backward row; the first value is for the glyph nearest the cursor (OpenType, chapter GSUB, types 5 and 6)
 unfoldable pub backOn : Lookup → List ℕ → Test → List Glyph → ℕ → List ℕ → Outcome
 backOn lookup sets test row syllable values =
     takes behind (judge (contextMatcherOf lookup) sets test syllable row) anywhere (length row) values

@@ -1,4 +1,4 @@
--- Demand 3 of calls, in 01's numbers and values (01, "Slips, and cheats": a Finished run stays the same with a larger allowance and depth, and one less
+-- Demand 3 of calls, in 01's numbers and values (01, "Nailing an answer down": a Finished run stays the same with a larger allowance and depth, and one less
 -- than it spent is Short). Said of any answers and rows that meet the contract of `nested::run`, so of every call of it.
 use mathlib.Core.Path.{_≡_, refl, sym, ap, subst, _∙_}
 use mathlib.Core.List.{List, [], _∷_}

@@ -79,10 +79,10 @@ appliedBy match chain None x = x
 
 -- ---- a record
 
--- a level that goes on in a run that isn't over; a sequence index below the count; a position in the text
 abbrev pub placeOf : Record → Stage → ℕ
 placeOf r v = getD (v .level .positions) (r .seq) 0
 
+-- a level that goes on in a run that isn't over; a sequence index below the count; a position in the text
 abbrev pub isDue : Record → Stage → Bool
 isDue r v =
     v .level .live && (not (isOver (v .run .ending)) && (ltb (r .seq) (length (v .level .positions)) && ltb (placeOf r v) (size (v .run))))

@@ -33,7 +33,7 @@ replaced ids t = record {
   cursor = t .cursor + length ids;
 }
 
--- 10, Full: one glyph made n would pass the limit
+-- 10, Full: with one glyph made n the text would pass the limit, size - 1 + n > limit
 abbrev pub isFull : ℕ → ℕ → Bool
 isFull size n = ltb (limit + 1) (size + n)
 

@@ -20,7 +20,7 @@ use Rattle.verdict.specs.declared.Verdict.the-variants.{Match, NotMatch,
 
 -- ---- may skip
 
--- OpenType, chapter GDEF, glyph class definitions: base 2, ligature 4, mark 8 of a glyph's props.
+-- OpenType, chapter GDEF, glyph class definitions: the classes base, ligature and mark (1, 2, 3 there) are the bits 2, 4 and 8 of 01's props.
 -- OpenType, chapter "OpenType Layout common table formats", LookupFlag: 2, 4, 8 of the lookup's props ignore those classes.
 abbrev pub ignoredClass : ℕ → ℕ → Bool
 ignoredClass asked props = ((bit 1 props && bit 1 asked) || (bit 2 props && bit 2 asked)) || (bit 3 props && bit 3 asked)
@@ -28,7 +28,7 @@ ignoredClass asked props = ((bit 1 props && bit 1 asked) || (bit 2 props && bit 
 abbrev pub isMark : ℕ → Bool
 isMark props = bit 3 props
 
--- LookupFlag, 0x0010: the lookup uses a mark filtering set, which the high half of its props names
+-- LookupFlag, 0x0010: the lookup uses a mark filtering set; 01's props name it in their high half
 abbrev pub usesSet : ℕ → Bool
 usesSet asked = bit 4 asked
 
@@ -39,7 +39,7 @@ setNamed asked = asked / 65536
 abbrev pub classAsked : ℕ → ℕ
 classAsked asked = asked / 256 % 256
 
--- chapter GDEF, mark attachment classes: the high byte of a glyph's props
+-- chapter GDEF, mark attachment classes: 01 has a glyph's in the high byte of its props
 abbrev pub classOf : ℕ → ℕ
 classOf props = props / 256
 
