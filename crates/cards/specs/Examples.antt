@@ -36,11 +36,15 @@ lookahead text start values = spelled (contextReply (contextTold (ahead (length 
 abbrev backtrack : List Glyph → List ℕ → List (List ℕ)
 backtrack row values = spelled (contextReply (contextTold behind (length row) (backOn (lookup Gsub 0) [] Equal row 0 values)))
 
--- marks 7 and then 8, of these components of ligature 1, after `done`, by a lookup that ignores ligatures
-abbrev joined : Table → List Glyph → ℕ → ℕ → List (List ℕ)
-joined table done first second =
-    let text = mark 7 1 first ∷ mark 8 1 second ∷ [] in
+-- the glyph at the cursor and then one with the id 8, after `done`, by a lookup that ignores ligatures
+abbrev after : Table → List Glyph → Glyph → Glyph → List (List ℕ)
+after table done first second =
+    let text = first ∷ second ∷ [] in
     spelled (inputReply (inputTold text 0 (inputOn (lookup table 4) [] Equal done text 0 (8 ∷ []))))
+
+-- marks 7 and then 8, of these components of ligature 1
+abbrev joined : Table → List Glyph → ℕ → ℕ → List (List ℕ)
+joined table done first second = after table done (mark 7 1 first) (mark 8 1 second)
 
 abbrev says : ℕ → List ℕ → List (List ℕ)
 says number values = (number ∷ []) ∷ values ∷ []
@@ -70,4 +74,10 @@ examples =
     record { given = joined Gsub (ligature 1 ∷ mark 6 1 1 ∷ []) 1 2; wanted = both } ∷
     record { given = joined Gsub (ligature 1 ∷ letter 6 ∷ []) 1 2; wanted = says 5 [] } ∷
     record { given = joined Gpos (ligature 1 ∷ []) 1 2; wanted = says 5 [] } ∷
+    -- after a first glyph that isn't attached, an attached one only with the first's id; with component 0, or no id, any
+    record { given = after Gsub [] (letter 7) (mark 8 1 2); wanted = says 5 [] } ∷
+    record { given = after Gsub [] (mark 7 1 0) (mark 8 1 2); wanted = both } ∷
+    record { given = after Gsub [] (mark 7 1 0) (mark 8 2 1); wanted = says 5 [] } ∷
+    record { given = after Gsub [] (letter 7) (mark 8 1 0); wanted = both } ∷
+    record { given = after Gsub [] (mark 7 1 0) (mark 8 0 2); wanted = both } ∷
     []
