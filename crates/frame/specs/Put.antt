@@ -1,4 +1,4 @@
--- A list stored in another from a place on, what stands past it kept; and the laws by which stores follow each other.
+-- The code's side: a list stored in another from a place on, what stands past it kept; and the laws by which stores follow each other.
 use Prim.Native.Nat.{ℕ, suc, _+_, _≤_, _<_}
 use mathlib.Core.Path.{_≡_, sym, ap, _∙_}
 use mathlib.Core.List.{List, [], _∷_, _++_, append-assoc}

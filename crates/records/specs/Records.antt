@@ -19,7 +19,7 @@ wordsOf (r ∷ rs) = r .sequence ∷ r .lookup ∷ wordsOf rs
 abbrev pub meant : Record → book.Record
 meant r = record { seq = r .sequence; lookup = r .lookup }
 
--- ---- the first records as words in an array
+-- ---- the code's side: the first records as words in an array
 
 -- over 16 records is refused (01, refusal 1): with one more than that kept, too many stay too many
 abbrev pub mostKept : ℕ

@@ -1,4 +1,4 @@
--- One AND tells an ignorable glyph: the flag bits that count are the default ignorable's and each that isn't ignored.
+-- The code's side: one AND tells an ignorable glyph: the flag bits that count are the default ignorable's and each that isn't ignored.
 -- Only the low four flags count, so a table of 16 values, which computes, is the whole of it.
 use Prim.Native.Nat.{ℕ, _+_, _/_, _%_, _^_, _<_}
 use mathlib.Core.Path.{_≡_, refl, sym, ap, _∙_}

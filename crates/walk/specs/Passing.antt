@@ -1,4 +1,4 @@
--- How many places right before one are skip Yes, one after the other: what the backward walk passes over before it looks closer.
+-- The code's side: how many places right before one are skip Yes, one after the other: what the backward walk passes over before it looks closer.
 use Prim.Native.Nat.{ℕ, zero, suc, _+_, _-_, _≤_}
 use mathlib.Core.List.{List}
 use mathlib.Core.Path.{_≡_, refl, sym, ap, _∙_, subst}
