@@ -92,7 +92,7 @@ fn lookup(
 {
     let e = book::find_in(book, starts, count, k);
     let place = s.place;
-    let aim = steps::take_aim(done, coming, book, sets, e, place, given);
+    let aim = aims::take_aim(done, coming, book, sets, e, place, given);
     if aim.hit {
         let part = aim.records;
         let a = part.from;

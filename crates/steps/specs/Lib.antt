@@ -1,4 +1,2 @@
 pub mod State
 pub mod Steps
-pub mod Shifts
-pub mod Aims

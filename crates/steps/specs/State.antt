@@ -2,27 +2,21 @@
 use mathlib.Core.Path.{_≡_}
 use mathlib.Core.Bool.{Bool, true, false, cond, not, _&&_}
 use mathlib.Core.List.{List, [], _∷_}
-use Prim.Native.Nat.{ℕ, zero, suc, _+_, _-_, _≤_, _<_}
-use lib.Dec.{eqb, ltb}
+use Prim.Native.Nat.{ℕ, zero, suc, _+_, _≤_}
+use lib.Dec.{ltb}
 use lib.ListN.{length, getD}
-use Rattle.text.specs.Text.{Text, textOf, movedTo, replaced, Fits}
-use Rattle.book.specs.declared.Part.{Part}
+use Rattle.text.specs.Text.{textOf, movedTo, replaced, Fits}
 use Rattle.book.specs.declared.Entry.{Entry}
-use Rattle.book.specs.Book.{Record, Kind3, recordsOf}
+use Rattle.book.specs.Book.{Record}
 use Rattle.book.specs.Places.{partOf}
 use Rattle.runs.specs.declared.Ending.{Ending}
-use Rattle.runs.specs.declared.Ending.the-variants.{Finished, Short, Deep, Full}
-use Rattle.runs.specs.declared.Given.{Given}
+use Rattle.runs.specs.declared.Ending.the-variants.{Short, Deep}
 use Rattle.runs.specs.Repair.{Level, Sound}
-use Rattle.runs.specs.Run.{Run, Stage, Match, Matched, Unmatched, isOver, changed, when, isAt, multiplied, isDue, arrived, stopped, spending, mostAllowance}
-use Rattle.runs.specs.Chain.{chainMatch, inputAt, afterInput}
-use Rattle.matching.specs.declared.Lookup.{Lookup as Question}
-use Rattle.glyph.specs.Glyph.{blank}
+use Rattle.runs.specs.Run.{Run, Stage, isOver, changed, when, isAt, multiplied, isDue, arrived, stopped, spending, mostAllowance}
 use Rattle.levels.specs.declared.Slots.{Slots}
 use Rattle.levels.specs.Slots.{levelOf, shown, Neat}
 use Rattle.steps.specs.declared.State.{State}
 use Rattle.steps.specs.declared.Ready.{Ready}
-use Rattle.steps.specs.declared.Aim.{Aim}
 
 -- the run that two rows and a state hold
 abbrev pub runOf : List ℕ → List ℕ → State → Run
@@ -96,30 +90,6 @@ actedBy ws (Entry.One props from to) x = oneOn from to x
 actedBy ws (Entry.Many props from ids) x = manyOn from (partOf ws ids) x
 actedBy ws (Entry.Chain props first back input onward records) x = x
 actedBy ws Entry.Missing x = x
-
--- no level
-abbrev pub noLevel : Level
-noLevel = record { live = false; positions = []; end = 0 }
-
-abbrev pub noAim : Aim
-noAim = record { hit = false; level = shown noLevel; records = record { from = 0; to = 0 } }
-
-abbrev pub aimAt : Part → Match → Aim
-aimAt records (Matched positions end) = record { hit = true; level = shown (record { live = true; positions = positions; end = end }); records = records }
-aimAt records Unmatched = noAim
-
--- `chainMatch` of a chain's parts
-abbrev pub matchOn : Question → List ℕ → ℕ → List ℕ → List ℕ → List ℕ → Text → Match
-matchOn q sets first back input onward t =
-    cond (eqb (getD (t .glyphs) (t .cursor) blank .id) first) (afterInput q sets t back onward (inputAt q sets t input)) Unmatched
-
--- kind 3
-abbrev pub aimedAt : Given → List ℕ → List ℕ → Entry → Text → Aim
-aimedAt given sets ws (Entry.Chain props first back input onward records) t =
-    aimAt records (chainMatch given sets (Kind3 props first (partOf ws back) (partOf ws input) (partOf ws onward) (recordsOf (partOf ws records))) t)
-aimedAt given sets ws (Entry.One props from to) t = noAim
-aimedAt given sets ws (Entry.Many props from ids) t = noAim
-aimedAt given sets ws Entry.Missing t = noAim
 
 -- ---- what a level's steps may count on
 

@@ -1,6 +1,6 @@
 -- Laws of one step of the code: a record judged and reached, a level closed, kinds 1 and 2.
 use mathlib.Core.Path.{_≡_, refl, sym, ap, _∙_}
-use mathlib.Core.Bool.{Bool, true, false, cond, not, _&&_}
+use mathlib.Core.Bool.{true, false}
 use mathlib.Core.List.{List, [], _∷_}
 use Prim.Native.Nat.{ℕ, zero, suc, _+_, _-_, _≤_, _<_}
 use native.Mathlib.Omega.{arith}
@@ -11,20 +11,20 @@ use lib.Seq.{getD-take}
 use Rattle.glyph.specs.declared.Glyph.{Glyph}
 use Rattle.glyph.specs.Glyph.{limit, glyphsOf, blank}
 use Rattle.text.specs.declared.Place.{Place}
-use Rattle.text.specs.Text.{Text, textOf, sizeOf, movedTo, replaced, isFull, Fits, Holds}
+use Rattle.text.specs.Text.{textOf, sizeOf, movedTo, replaced, isFull, Fits, Holds}
 use Rattle.text.specs.Changes.{size-is, at-cursor}
 use Rattle.text.specs.Laws.{sizes}
 use Rattle.runs.specs.declared.Ending.{Ending}
-use Rattle.runs.specs.declared.Ending.the-variants.{Finished, Short, Deep, Full}
-use Rattle.runs.specs.Repair.{Level, Sound}
+use Rattle.runs.specs.declared.Ending.the-variants.{Short, Deep, Full}
+use Rattle.runs.specs.Repair.{Sound}
 use Rattle.runs.specs.Kept.{due-shows}
-use Rattle.runs.specs.Run.{Run, Stage, isOver, size, changed, endingAs, when, isAt, multiplied, isDue, arrived, placeOf, stopped, spending}
+use Rattle.runs.specs.Run.{Stage, isOver, size, isAt, isDue, arrived, placeOf}
 use Rattle.levels.specs.declared.Slots.{Slots}
-use Rattle.levels.specs.Slots.{levelOf, shown, Neat}
+use Rattle.levels.specs.Slots.{levelOf, Neat}
 use Rattle.levels.specs.Laws.{count-is}
 use Rattle.steps.specs.declared.State.{State}
 use Rattle.steps.specs.declared.Ready.{Ready}
-use Rattle.steps.specs.State.{runOf, stageOf, Ran, Able, at, isDueAt, endedAs, stoppedSlots, judgedAt, Judgement, judged, readied, Prepared, closedAt, oneOn, manyOn}
+use Rattle.steps.specs.State.{runOf, stageOf, Ran, Able, at, isDueAt, endedAs, stoppedSlots, judgedAt, judged, readied, Prepared, closedAt, oneOn, manyOn}
 
 -- ids of a lookup, and slots, are fewer than a row's glyphs
 pub limit-most : 64 ≤ limit

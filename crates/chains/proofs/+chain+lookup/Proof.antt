@@ -28,10 +28,10 @@ use Rattle.chains.proofs.lookup.Kinds as lookup-kinds
 use Rattle.chains.proofs.+chain+lookup.Lts-lookup as lookup-lts
 use Rattle.book.proofs.find_in.Reads as find-in-reads
 use Rattle.levels.proofs.repair.Reads as repair-reads
+use Rattle.aims.proofs.take_aim.Reads as take-aim-reads
 use Rattle.steps.proofs.act.Reads as act-reads
 use Rattle.steps.proofs.finish.Reads as finish-reads
 use Rattle.steps.proofs.prepare.Reads as prepare-reads
-use Rattle.steps.proofs.take_aim.Reads as take-aim-reads
 use Rattle.text.proofs.size.Reads as size-reads
 use Rattle.chains.proofs.+chain+lookup.{statement}
 use Rattle.chains.proofs.+chain+lookup.Tie.{close}

@@ -1,5 +1,5 @@
 -- What an entry does is that of its kind; a part of the book is in the book. Assumes nothing.
-use mathlib.Core.Path.{_≡_, refl}
+use mathlib.Core.Path.{refl}
 use native.Mathlib.Omega.{arith}
 use lib.ListN.{length, length-take, length-drop}
 use Rattle.book.specs.Book.{mostIds}

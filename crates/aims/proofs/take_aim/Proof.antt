@@ -6,10 +6,10 @@ use lib.ListN.{length, length-take, length-drop}
 use Rattle.text.specs.Text.{textOf}
 use Rattle.book.specs.Book.{mostSide, mostInput, mostRecords}
 use Rattle.book.specs.Inside.{Inside}
-use Rattle.steps.specs.Aims.{aim-chain}
+use Rattle.aims.specs.Laws.{aim-chain}
 use borrow.Author.Needs.{needs}
-use Rattle.steps.proofs.take_aim.Statement.{statement}
-use Rattle.steps.proofs.take_aim.Tie as tie
+use Rattle.aims.proofs.take_aim.Statement.{statement}
+use Rattle.aims.proofs.take_aim.Tie as tie
 
 enum-known-e : tie.Need-enum-known-e
 enum-known-e c = search needs

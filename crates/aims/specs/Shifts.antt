@@ -2,12 +2,10 @@
 -- Both are what matching finds in the glyphs from the cursor on, raised by idx and by the cursor.
 use mathlib.Core.Path.{_≡_, refl, sym, ap, ap₂, _∙_}
 use mathlib.Core.Bool.{Bool, true, false, cond, _&&_}
-use mathlib.Core.List.{List, [], _∷_, _++_, map}
-use Prim.Native.Nat.{ℕ, zero, suc, _+_, _-_, _≤_, _<_}
+use mathlib.Core.List.{List, [], _∷_, map}
+use Prim.Native.Nat.{ℕ, suc, _+_, _-_, _≤_, _<_}
 use native.Mathlib.Omega.{arith}
-use borrow.Author.Tests.{eq-eqb, ne-eqb}
-use lib.Dec.{eqb}
-use lib.ListN.{length, getD, take, drop, length-drop, length-map, length-append, length-replicate}
+use lib.ListN.{length, getD, take, drop, length-drop, length-map}
 use lib.Seq.{drop-drop, take-append-seam}
 use Rattle.glyph.specs.declared.Glyph.{Glyph}
 use Rattle.glyph.specs.Glyph.{limit, glyphsOf, blank}
@@ -17,18 +15,15 @@ use Rattle.text.specs.Changes.{before-cursor, from-cursor, at-cursor}
 use Rattle.text.specs.Laws.{sizes}
 use Rattle.verdict.specs.declared.Test.{Test}
 use Rattle.matching.specs.declared.Lookup.{Lookup as Question}
-use Rattle.matching.specs.declared.InputAnswer.{InputAnswer}
 use Rattle.matching.specs.declared.InputMatch.{InputMatch}
-use Rattle.matching.specs.declared.ContextMatch.{ContextMatch}
-use Rattle.matching.specs.Take.{slots, Way, ahead, Outcome, taken, lost, unlike, reached}
+use Rattle.matching.specs.Take.{Way, ahead, Outcome, taken, lost, unlike, reached}
 use Rattle.matching.specs.Matchers.{inputOn, inputBy, aheadOn, backOn}
 use Rattle.matching.specs.Answers.{slotted, matchedAt, inputTold, contextTold, isMatched, endOf, isFound}
 use Rattle.matching.specs.Demand2Laws.{demand-2}
 use Rattle.matching.specs.Rising.{as-many, end-inside}
 use Rattle.matching.specs.Shift.{raisedAll, raisedBy, reached-shift, input-shift, ahead-shift}
-use Rattle.runs.specs.Repair.{Level}
-use Rattle.runs.specs.Run.{Match, Matched, Unmatched, fromDone, movedLevel}
-use Rattle.runs.specs.Chain.{isTaken, inputAt, aheadAt, backAt, endAfter, contextMatched, afterInput}
+use Rattle.runs.specs.Run.{Matched, Unmatched, fromDone, movedLevel}
+use Rattle.runs.specs.Chain.{isTaken, inputAt, aheadAt, backAt, endAfter, afterInput}
 
 -- ---- answers, by their cases
 

@@ -1,9 +1,9 @@
 -- No values are always there; else the slots that the matcher is handed are the values. Assumes nothing.
 use Rattle.glyph.specs.Glyph.{glyphsOf}
-use Rattle.steps.specs.Aims.{ahead-told, no-ahead}
+use Rattle.aims.specs.Laws.{ahead-told, no-ahead}
 use borrow.Author.Needs.{needs}
-use Rattle.steps.proofs.is_ahead.Statement.{statement}
-use Rattle.steps.proofs.is_ahead.Tie as tie
+use Rattle.aims.proofs.is_ahead.Statement.{statement}
+use Rattle.aims.proofs.is_ahead.Tie as tie
 
 returns : tie.Need-returns
 returns c = let a = c .before .before .before .before .args in no-ahead (a .q) (a .sets .now) (glyphsOf (a .coming .now)) (a .start) (a .syllable) (a .values .now) (c .if1 .taken)

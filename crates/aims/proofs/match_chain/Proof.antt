@@ -4,7 +4,7 @@ use mathlib.Core.Path.{_≡_, sym, ap, _∙_}
 use mathlib.Core.List.{List}
 use native.Mathlib.Omega.{arith}
 use borrow.Author.Tests.{not-true, not-false}
-use lib.ListN.{length, take}
+use lib.ListN.{take}
 use Rattle.glyph.specs.declared.Glyph.{Glyph}
 use Rattle.glyph.specs.Glyph.{glyphsOf}
 use Rattle.text.specs.Laws.{sizes}
@@ -13,11 +13,11 @@ use Rattle.matching.specs.Matchers.{inputOn, aheadOn, backOn}
 use Rattle.matching.specs.Answers.{inputTold, endOf}
 use Rattle.runs.specs.Chain.{isTaken}
 use Rattle.levels.specs.Slots.{shown}
-use Rattle.steps.specs.Shifts.{Shown, input-shown}
-use Rattle.steps.specs.Aims.{aim-other, aim-lost, aim-behind, aim-ahead, aim-hit, open-asks}
+use Rattle.aims.specs.Shifts.{Shown, input-shown}
+use Rattle.aims.specs.Laws.{aim-other, aim-lost, aim-behind, aim-ahead, aim-hit, open-asks}
 use borrow.Author.Needs.{needs}
-use Rattle.steps.proofs.match_chain.Statement.{statement}
-use Rattle.steps.proofs.match_chain.Tie as tie
+use Rattle.aims.proofs.match_chain.Statement.{statement}
+use Rattle.aims.proofs.match_chain.Tie as tie
 use Rattle.runs.specs.Run.{movedLevel}
 
 -- what input matching answered, of the first d glyphs of `done`

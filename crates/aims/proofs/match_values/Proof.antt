@@ -1,9 +1,9 @@
 -- The slots that the matcher is handed are the values. Assumes nothing.
 use Rattle.glyph.specs.Glyph.{glyphsOf}
-use Rattle.steps.specs.Aims.{input-told}
+use Rattle.aims.specs.Laws.{input-told}
 use borrow.Author.Needs.{needs}
-use Rattle.steps.proofs.match_values.Statement.{statement}
-use Rattle.steps.proofs.match_values.Tie as tie
+use Rattle.aims.proofs.match_values.Statement.{statement}
+use Rattle.aims.proofs.match_values.Tie as tie
 
 widen-requires : tie.Need-widen-requires
 widen-requires c κs = search needs

@@ -1,8 +1,8 @@
 -- A chain's aim by the tests that the code makes, in 01's order: first id, input, lookahead, backtrack.
-use mathlib.Core.Path.{_≡_, refl, sym, ap, ap₂, _∙_}
+use mathlib.Core.Path.{_≡_, refl, sym, ap, _∙_}
 use mathlib.Core.Bool.{Bool, true, false, cond, _&&_}
 use mathlib.Core.List.{List, [], _∷_}
-use Prim.Native.Nat.{ℕ, suc, _+_, _-_, _≤_, _<_}
+use Prim.Native.Nat.{ℕ, _+_, _-_, _≤_}
 use native.Mathlib.Omega.{arith}
 use borrow.Author.Tests.{eq-eqb, ne-eqb}
 use lib.Dec.{eqb}
@@ -27,13 +27,13 @@ use Rattle.book.specs.declared.Entry.{Entry}
 use Rattle.book.specs.Places.{widened, partOf}
 use Rattle.runs.specs.declared.Given.{Given}
 use Rattle.book.specs.Widened.{widened-values}
-use Rattle.runs.specs.Run.{Match, Matched, Unmatched, movedLevel}
+use Rattle.runs.specs.Run.{Matched, Unmatched, movedLevel}
 use Rattle.runs.specs.Chain.{asks, isTaken, inputAt, afterInput, chainMatch}
 use Rattle.levels.specs.declared.Slots.{Slots}
 use Rattle.levels.specs.Slots.{shown}
-use Rattle.steps.specs.declared.Aim.{Aim}
-use Rattle.steps.specs.State.{noAim, aimAt, matchOn, aimedAt}
-use Rattle.steps.specs.Shifts.{found-taken, Shown, input-lost, context-is, level-is}
+use Rattle.aims.specs.declared.Aim.{Aim}
+use Rattle.aims.specs.Aim.{noAim, aimAt, matchOn, aimedAt}
+use Rattle.aims.specs.Shifts.{found-taken, Shown, input-lost, context-is, level-is}
 
 -- a matcher is handed the first slots of what was widened, `wide[0..n]`
 pub values-are : (wide values : List ℕ) → wide ≡ widened values → take (length values - 0) wide ≡ values

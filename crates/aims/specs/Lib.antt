@@ -1,0 +1,3 @@
+pub mod Aim
+pub mod Shifts
+pub mod Laws
