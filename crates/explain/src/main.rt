@@ -1,6 +1,6 @@
 // What a frame of the bench tape was answered, and why: on standard input frames, a line each; on standard output what the
-// matcher saw of each glyph, in words, and the tape's answer. What is said comes from proved functions: `explaining` for the reasons,
-// `frame`, `matching` and `tape` for the answer.
+// matcher saw of each glyph, in words, and the tape's answer. What is said comes from proved functions: `explaining` and `wording` for the
+// reasons, `frame`, `matching` and `tape` for the answer.
 mod answer;
 mod head;
 mod rows;
@@ -276,7 +276,7 @@ fn tell_line(frame: &[u8], lines: u64) {
     let mut done = [0u32; frame::ROW];
     let mut coming = [0u32; frame::ROW];
     match frame::decode(frame, &mut values, &mut done, &mut coming) {
-        Decoded::NoFrame => head::no_frame(&mut text, lines, explaining::why_none(frame)),
+        Decoded::NoFrame => head::no_frame(&mut text, lines, wording::why_none(frame)),
         Decoded::Frame(h) => tell_frame(&mut text, lines, h, &values, &done, &coming),
     }
     tell_answer(frame, &mut text);

@@ -1,10 +1,10 @@
 -- Each reason is a reason for the answer given; and what it says of the lookup and the glyph is so. Test by test, as the definitions go.
 use Prim.Native.Nat.{ℕ, _/_, _%_, _^_}
-use mathlib.Core.Path.{_≡_, refl, sym, ap, _∙_}
+use mathlib.Core.Path.{_≡_, refl, sym}
 use mathlib.Core.List.{List}
-use mathlib.Core.Bool.{Bool, true, false, not, cond, _&&_, _||_, true≢false}
+use mathlib.Core.Bool.{Bool, true, false, not, cond, _&&_, _||_}
 use native.Mathlib.Omega.{arith}
-use borrow.Author.Tests.{eq-eqb, ne-eqb, eqb-true}
+use borrow.Author.Tests.{eq-eqb, ne-eqb, eqb-true, not-true, not-false}
 use lib.Dec.{eqb}
 use lib.Bits.{bitAnd}
 use Rattle.bits.specs.Bits.{bit}
@@ -17,7 +17,7 @@ use Rattle.verdict.specs.declared.MayMatch.{MayMatch}
 use Rattle.verdict.specs.declared.Test.{Test}
 use Rattle.verdict.specs.declared.Test.the-variants.{Equal, Any, Nothing}
 use Rattle.verdict.specs.declared.Sign.{Sign}
-use Rattle.verdict.specs.Verdict.{ignoredClass, isMark, usesSet, setNamed, classAsked, classOf, otherMark, skipYes, ignorable, skipOf, ruledOut, yesIf, valueBy, valueOf, matchOf, verdict, verdictOf}
+use Rattle.verdict.specs.Verdict.{isMark, usesSet, setNamed, classAsked, classOf, otherMark, skipYes, ignorable, skipOf, ruledOut, yesIf, valueBy, valueOf, matchOf, verdict, verdictOf}
 use Rattle.explaining.specs.declared.SkipReason.{SkipReason}
 use Rattle.explaining.specs.declared.SkipReason.the-variants.{IgnoredBase, IgnoredLigature, IgnoredMark, OutsideSet, OtherClass, DefaultIgnorable, KeptZwnj, KeptZwj, KeptHidden, NotIgnorable}
 use Rattle.explaining.specs.declared.MatchReason.{MatchReason}
@@ -97,17 +97,9 @@ SkipSays m sets g KeptHidden = (bit 0 (g .flags) ≡ true) × (bit 3 (g .flags) 
 SkipSays m sets g NotIgnorable = bit 0 (g .flags) ≡ false
 
 -- of a choice, whichever it is
-pub pick : {A : Type 0} (P : A → Type 0) (b : Bool) (x y : A) → (b ≡ true → P x) → (b ≡ false → P y) → P (cond b x y)
+pick : {A : Type 0} (P : A → Type 0) (b : Bool) (x y : A) → (b ≡ true → P x) → (b ≡ false → P y) → P (cond b x y)
 pick P true x y t f = t refl
 pick P false x y t f = f refl
-
-pub not-true : (b : Bool) → not b ≡ true → b ≡ false
-not-true true e = absurd (true≢false (sym e))
-not-true false e = refl
-
-pub not-false : (b : Bool) → not b ≡ false → b ≡ true
-not-false true e = refl
-not-false false e = absurd (true≢false e)
 
 -- nothing was ignored, so it is the last
 last-of : (a b c d : Bool) → a ≡ false → b ≡ false → c ≡ false → ((a || b) || c) || d ≡ true → d ≡ true

@@ -1,7 +1,7 @@
 -- Which rule decides may skip and may match (01, port order 3): the clauses of `Verdict`'s definitions, in their order.
 use Prim.Native.Nat.{ℕ}
 use mathlib.Core.List.{List}
-use mathlib.Core.Bool.{Bool, not, cond, _&&_}
+use mathlib.Core.Bool.{not, cond, _&&_}
 use lib.Dec.{eqb}
 use lib.Bits.{bitAnd}
 use Rattle.bits.specs.Bits.{bit}

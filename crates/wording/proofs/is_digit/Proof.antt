@@ -1,8 +1,8 @@
 -- The ranges are the digits, by a table of all bytes. Assumes nothing.
 use borrow.Author.Needs.{needs}
-use Rattle.explaining.specs.Fault.{digit-ranges}
-use Rattle.explaining.proofs.is_digit.Statement.{statement}
-use Rattle.explaining.proofs.is_digit.Tie as tie
+use Rattle.wording.specs.Fault.{digit-ranges}
+use Rattle.wording.proofs.is_digit.Statement.{statement}
+use Rattle.wording.proofs.is_digit.Tie as tie
 
 returns : tie.Need-returns
 returns c = digit-ranges (c .args .b) (search needs)

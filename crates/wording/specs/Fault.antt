@@ -1,8 +1,8 @@
 -- What keeps a line from being a frame, as far as its digits tell (01, "The bench tape").
 use Prim.Native.Nat.{ℕ, zero, suc, _+_, _-_, _%_, _≤_, _<_}
-use mathlib.Core.Path.{_≡_, refl, sym, ap, _∙_}
+use mathlib.Core.Path.{_≡_, refl, sym, _∙_}
 use mathlib.Core.List.{List, [], _∷_}
-use mathlib.Core.Bool.{Bool, true, false, not, cond, _&&_, _||_, Bool·beq, and-false, true≢false}
+use mathlib.Core.Bool.{Bool, true, false, cond, _&&_, _||_, Bool·beq, and-false, true≢false}
 use native.Mathlib.Omega.{arith}
 use native.Mathlib.Numerals.{add-one}
 use lib.Dec.{eqb, ltb, leb}
@@ -11,13 +11,12 @@ use lib.Seq.{drop-cons}
 use borrow.Author.Tests.{ltb-true, ltb-false, eqb-true, eq-eqb}
 use Rattle.bits.specs.Bits.{every}
 use Rattle.bits.specs.Laws.{every-at}
-use Rattle.frame.specs.Digits.{noDigit, digit, isDigit, spells}
+use Rattle.frame.specs.Digits.{digit, isDigit, spells}
 use Rattle.frame.specs.DigitLaws.{spells-odd}
 use Rattle.frame.specs.Frame.{none, frameOf, mostDigits}
 use Rattle.frame.specs.FrameLaws.{long-none}
-use Rattle.explaining.specs.Laws.{pick}
-use Rattle.explaining.specs.declared.LineFault.{LineFault}
-use Rattle.explaining.specs.declared.LineFault.the-variants.{TooLong, NotDigit, Odd, OtherFault}
+use Rattle.wording.specs.declared.LineFault.{LineFault}
+use Rattle.wording.specs.declared.LineFault.the-variants.{TooLong, NotDigit, Odd, OtherFault}
 
 -- the place of the first byte that is no digit, of bytes that begin at place i; one past the last where there is none
 unfoldable pub badFrom : List ℕ → ℕ → ℕ
@@ -121,26 +120,29 @@ first-bad [] k = record {
 }
 first-bad (b ∷ rest) k = by-digit b rest k (badFrom rest (k + 1)) (isDigit b) refl (first-bad rest (k + 1))
 
+-- by the three tests
+module _ (line : List ℕ) where
+  abbrev at : ℕ
+  at = badFrom line 0
+
+  says-by : (a b c : Bool) → ltb mostDigits (length line) ≡ a → ltb at (length line) ≡ b → eqb (length line % 2) 0 ≡ c
+      → FaultSays line (cond a TooLong (cond b (NotDigit at) (cond c OtherFault Odd)))
+  says-by true b c long t e = let h = ltb-true mostDigits (length line) long in (h, long-none line h)
+  says-by false true c long t e =
+      let f = first-bad line 0 in
+      let z : at - 0 ≡ at = omega arith in
+      let h = ltb-true at (length line) t in
+      let b : isDigit (getD line at 0) ≡ false = rw z at (f .bad (omega arith)) in
+      (h, b, unspelled line (bad-spells line at h b))
+  says-by false false true long t e =
+      let f = first-bad line 0 in
+      let h = ltb-false at (length line) t in
+      (eqb-true (length line % 2) 0 e, λ i l. f .good i (omega arith))
+  says-by false false false long t e =
+      let o : length line % 2 ≡ 0 → ⊥ = λ s. true≢false (sym (eq-eqb (length line % 2) 0 s) ∙ e) in
+      (o, unspelled line (spells-odd line o))
+
 -- a fault is the line's
 pub fault-says : (line : List ℕ) → FaultSays line (faultOf line)
 unfolding faultOf
-fault-says line =
-    let at = badFrom line 0 in
-    let f = first-bad line 0 in
-    let z : at - 0 ≡ at = omega arith in
-    pick (FaultSays line) (ltb mostDigits (length line)) TooLong
-    (cond (ltb at (length line)) (NotDigit at) (cond (eqb (length line % 2) 0) OtherFault Odd))
-    (λ t. let h = ltb-true mostDigits (length line) t in (h, long-none line h))
-    (λ n.
-    pick (FaultSays line) (ltb at (length line)) (NotDigit at) (cond (eqb (length line % 2) 0) OtherFault Odd)
-    (λ t.
-    let h = ltb-true at (length line) t in
-    let b : isDigit (getD line at 0) ≡ false = rw z at (f .bad (omega arith)) in
-    (h, b, unspelled line (bad-spells line at h b)))
-    (λ k.
-    let h = ltb-false at (length line) k in
-    pick (FaultSays line) (eqb (length line % 2) 0) OtherFault Odd
-    (λ t. (eqb-true (length line % 2) 0 t, λ i l. f .good i (omega arith)))
-    (λ t.
-    let o : length line % 2 ≡ 0 → ⊥ = λ e. true≢false (sym (eq-eqb (length line % 2) 0 e) ∙ t) in
-    (o, unspelled line (spells-odd line o)))))
+fault-says line = says-by line (ltb mostDigits (length line)) (ltb (badFrom line 0) (length line)) (eqb (length line % 2) 0) refl refl refl

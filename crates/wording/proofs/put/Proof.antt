@@ -1,14 +1,14 @@
 -- What is stored with what is left to store from here on, as far as it fits, is the whole. Assumes nothing.
 use Prim.Native.Nat.{ℕ, _+_, _-_, _≤_}
 use mathlib.Core.Path.{_≡_, refl, sym, ap, _∙_}
-use mathlib.Core.List.{List, [], _∷_}
+use mathlib.Core.List.{List, []}
 use native.Mathlib.Omega.{arith}
 use lib.ListN.{length, getD, take, drop, length-set, length-take}
 use Rattle.frame.specs.Put.{put, Puts, put-none, put-cons}
-use Rattle.explaining.specs.Words.{fitting, left-on, left-full, left-none}
+use Rattle.wording.specs.Words.{fitting, left-on, left-full, left-none}
 use borrow.Author.Needs.{needs}
-use Rattle.explaining.proofs.put.Statement.{statement}
-use Rattle.explaining.proofs.put.Tie as tie
+use Rattle.wording.proofs.put.Statement.{statement}
+use Rattle.wording.proofs.put.Tie as tie
 
 abbrev Inv-loop : tie.InvT-loop
 Inv-loop line₀ at words next₀ i₀ line next i =

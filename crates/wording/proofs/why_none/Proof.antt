@@ -1,9 +1,9 @@
 -- The faults are asked in the definition's order. Assumes nothing.
 use borrow.Author.Needs.{needs}
 use borrow.Author.Tests.{lt-ltb, le-ltb, eq-eqb, ne-eqb}
-use Rattle.explaining.specs.Fault.{faultOf}
-use Rattle.explaining.proofs.why_none.Statement.{statement}
-use Rattle.explaining.proofs.why_none.Tie as tie
+use Rattle.wording.specs.Fault.{faultOf}
+use Rattle.wording.proofs.why_none.Statement.{statement}
+use Rattle.wording.proofs.why_none.Tie as tie
 
 returns : tie.Need-returns
 unfolding faultOf

@@ -3,11 +3,11 @@ use Prim.Native.Nat.{_-_, _≤_}
 use mathlib.Core.Path.{_≡_, refl, sym, _∙_}
 use native.Mathlib.Omega.{arith}
 use lib.ListN.{length, drop, drop-of-length-le}
-use Rattle.explaining.specs.Laws.{not-true, not-false}
-use Rattle.explaining.specs.Fault.{badFrom, bad-on, bad-end}
+use borrow.Author.Tests.{not-true, not-false}
+use Rattle.wording.specs.Fault.{badFrom, bad-on, bad-end}
 use borrow.Author.Needs.{needs}
-use Rattle.explaining.proofs.first_bad.Statement.{statement}
-use Rattle.explaining.proofs.first_bad.Tie as tie
+use Rattle.wording.proofs.first_bad.Statement.{statement}
+use Rattle.wording.proofs.first_bad.Tie as tie
 
 abbrev Inv-loop : tie.InvT-loop
 Inv-loop line i₀ i = (i ≤ length line) × (badFrom line 0 ≡ badFrom (drop i line) i)
