@@ -1,16 +1,16 @@
 // The two questions, the verdict and the walks.
-use verdict::MatchAnswer;
+use questions::MatchAnswer;
+use questions::SkipAnswer;
+use questions::VerdictAnswer;
 use verdict::Matcher;
 use verdict::MayMatch;
 use verdict::MaySkip;
 use verdict::Settings;
 use verdict::Sign;
-use verdict::SkipAnswer;
 use verdict::Verdict;
-use verdict::VerdictAnswer;
 use walk::Walked;
 ghost use mathlib.Core.Path.{_≡_};
-ghost use Rattle.verdict.specs.Ask.{askSkip, askMatch, askVerdict, skipReply, matchReply, verdictReply};
+ghost use Rattle.questions.specs.Ask.{askSkip, askMatch, askVerdict, skipReply, matchReply, verdictReply};
 ghost use Rattle.walk.specs.Calls.{forwardOf, backwardOf};
 ghost use Rattle.desk.specs.Walks.{settingsOf, matcherFor, signOf, saidOf, stepOf};
 
@@ -58,7 +58,7 @@ pub extern "C" fn cb_may_skip(
 ) -> Said
     ensures { λ r. ⌜ r ≡ saidOf (skipReply (askSkip (now (row .entry)) place (matcherFor lookup context) (now (sets .entry)))) ⌝ }
 {
-    said_skip(verdict::ask_skip(row, place, matcher(lookup, context), sets))
+    said_skip(questions::ask_skip(row, place, matcher(lookup, context), sets))
 }
 
 #[no_mangle]
@@ -71,7 +71,7 @@ pub extern "C" fn cb_may_match(
 ) -> Said
     ensures { λ r. ⌜ r ≡ saidOf (matchReply (askMatch (now (row .entry)) place (matcherFor lookup context) (signOf sought) (sought .syllable))) ⌝ }
 {
-    said_match(verdict::ask_match(
+    said_match(questions::ask_match(
         row,
         place,
         matcher(lookup, context),
@@ -91,7 +91,7 @@ pub extern "C" fn cb_verdict(
 ) -> Said
     ensures { λ r. ⌜ r ≡ saidOf (verdictReply (askVerdict (now (row .entry)) place (matcherFor lookup context) (signOf sought) (sought .syllable) (now (sets .entry)))) ⌝ }
 {
-    said_verdict(verdict::ask_verdict(
+    said_verdict(questions::ask_verdict(
         row,
         place,
         matcher(lookup, context),

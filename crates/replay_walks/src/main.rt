@@ -3,17 +3,17 @@
 // A line's words: the operation (30 may skip, 31 verdict, 32 forward, 33 backward), GPOS, auto-ZWNJ, auto-ZWJ, syllables, mask, props,
 // context, test, value, syllable, place, len, how many words of mark sets and these, how many words of the row and these, and the answer.
 // An operation of 100 and more is the same question where ours and the original's answers differ (docs/DIFFERENCES.md), with ours.
+use questions::SkipAnswer;
+use questions::VerdictAnswer;
 use stored::part;
 use stored::word;
 use verdict::Matcher;
 use verdict::MaySkip;
 use verdict::Settings;
 use verdict::Sign;
-use verdict::SkipAnswer;
 use verdict::Table;
 use verdict::Test;
 use verdict::Verdict;
-use verdict::VerdictAnswer;
 use walk::Walked;
 
 struct Tally {
@@ -186,12 +186,12 @@ fn answered(q: Question, row: &[u32], sets: &[u16], words: &[u32], k: usize) -> 
     match op {
         30 => said_is(
             words,
-            skip_number(verdict::ask_skip(row, q.place, m, sets)),
+            skip_number(questions::ask_skip(row, q.place, m, sets)),
             k,
         ),
         31 => said_is(
             words,
-            verdict_number(verdict::ask_verdict(row, q.place, m, s, q.syllable, sets)),
+            verdict_number(questions::ask_verdict(row, q.place, m, s, q.syllable, sets)),
             k,
         ),
         32 => walk_is(

@@ -1,14 +1,11 @@
 -- The verdict in two parts: skip Yes is passed over, and the rest is told without the mark sets.
-use Prim.Native.Nat.{ℕ, _<_}
+use Prim.Native.Nat.{ℕ}
 use mathlib.Core.List.{List}
 use mathlib.Core.Path.{_≡_, refl, sym, _∙_}
 use mathlib.Core.Bool.{Bool, true, false, cond}
-use borrow.Author.Tests.{leb-false}
-use lib.Dec.{leb}
-use lib.ListN.{length, getD}
+use lib.ListN.{getD}
 use Rattle.glyph.specs.declared.Glyph.{Glyph}
-use Rattle.glyph.specs.Glyph.{glyphsOf, blank, illShaped}
-use Rattle.bits.specs.Laws.{neither-right}
+use Rattle.glyph.specs.Glyph.{blank}
 use Rattle.verdict.specs.declared.Matcher.{Matcher}
 use Rattle.verdict.specs.declared.Sign.{Sign}
 use Rattle.verdict.specs.declared.MaySkip.{MaySkip}
@@ -16,7 +13,6 @@ use Rattle.verdict.specs.declared.MayMatch.{MayMatch}
 use Rattle.verdict.specs.declared.Verdict.{Verdict}
 use Rattle.verdict.specs.declared.Verdict.the-variants.{Match, NotMatch, Skip}
 use Rattle.verdict.specs.Verdict.{skipYes, skipOf, verdict, verdictOf, restOf, judgeAt}
-use Rattle.verdict.specs.Ask.{badPlace}
 
 module _ (m : Matcher) (sign : Sign) (syllable : ℕ) (sets : List ℕ) (g : Glyph) where
   pub verdict-yes : skipYes m sets g ≡ true → verdict m sign syllable sets g ≡ Skip
@@ -49,10 +45,3 @@ weighed-yes false = refl
 pub weighed-maybe : (s : Bool) → cond s Skip Match ≡ verdictOf (cond s MaySkip.Maybe MaySkip.No) MayMatch.Maybe
 weighed-maybe true = refl
 weighed-maybe false = refl
-
--- ---- what a question that isn't refused may count on
-
-pub good-place : (row : List ℕ) (place : ℕ) → badPlace row place ≡ false → place < length (glyphsOf row)
-unfolding badPlace
-good-place row place e =
-    leb-false (length (glyphsOf row)) place (neither-right (illShaped row) (leb (length (glyphsOf row)) place) e)

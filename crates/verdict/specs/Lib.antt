@@ -1,5 +1,4 @@
 pub mod Matcher
 pub mod Verdict
-pub mod Ask
 pub mod Care
 pub mod Laws

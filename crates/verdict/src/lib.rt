@@ -5,7 +5,6 @@ ghost use mathlib.Core.Bool.{cond};
 ghost use Prim.Native.Nat.{_≤_};
 ghost use Rattle.verdict.specs.Matcher.{isGpos, matcherOf};
 ghost use Rattle.verdict.specs.Verdict.{ignoredClass, otherMark, skipYes, ignorable, skipOf, ruledOut, yesIf, valueOf, matchOf, verdict, verdictOf, restOf};
-ghost use Rattle.verdict.specs.Ask.{badPlace, askSkip, askMatch, askVerdict};
 ghost use Rattle.verdict.specs.Care.{careOf};
 
 // The layout table that a lookup is of.
@@ -62,68 +61,6 @@ pub enum Test {
 pub struct Sign {
     pub test: Test,
     pub value: u32,
-}
-
-pub enum SkipAnswer {
-    Said(MaySkip),
-    // Refusal 1.
-    Refused,
-}
-
-pub enum MatchAnswer {
-    Said(MayMatch),
-    // Refusal 1.
-    Refused,
-}
-
-pub enum VerdictAnswer {
-    Said(Verdict),
-    // Refusal 1.
-    Refused,
-}
-
-// May the glyph at a place of a row be skipped?
-pub fn ask_skip(row: &[u32], place: usize, m: Matcher, sets: &[u16]) -> SkipAnswer
-    ensures { λ r. ⌜ r ≡ askSkip (now (row .entry)) place m (now (sets .entry)) ⌝ }
-{
-    if is_bad_place(row, place) | glyph::is_odd(sets) {
-        return SkipAnswer::Refused;
-    }
-    SkipAnswer::Said(may_skip(m, sets, glyph::read(row, place)))
-}
-
-// May the glyph at a place of a row match?
-pub fn ask_match(row: &[u32], place: usize, m: Matcher, sign: Sign, syllable: u8) -> MatchAnswer
-    ensures { λ r. ⌜ r ≡ askMatch (now (row .entry)) place m sign syllable ⌝ }
-{
-    if is_bad_place(row, place) {
-        return MatchAnswer::Refused;
-    }
-    MatchAnswer::Said(may_match(m, sign, syllable, glyph::read(row, place)))
-}
-
-// What does a walk make of the glyph at a place of a row?
-pub fn ask_verdict(
-    row: &[u32],
-    place: usize,
-    m: Matcher,
-    sign: Sign,
-    syllable: u8,
-    sets: &[u16],
-) -> VerdictAnswer
-    ensures { λ r. ⌜ r ≡ askVerdict (now (row .entry)) place m sign syllable (now (sets .entry)) ⌝ }
-{
-    if is_bad_place(row, place) | glyph::is_odd(sets) {
-        return VerdictAnswer::Refused;
-    }
-    VerdictAnswer::Said(judge(m, sign, syllable, sets, glyph::read(row, place)))
-}
-
-// A question about no glyph: refusal 1.
-fn is_bad_place(row: &[u32], place: usize) -> bool
-    ensures { λ r. ⌜ r ≡ badPlace (now (row .entry)) place ⌝ }
-{
-    glyph::is_ill_shaped(row) | (glyph::count(row) <= place)
 }
 
 fn is_gpos(table: Table) -> bool

@@ -1,12 +1,12 @@
 -- A place that isn't bad has a glyph, which is read and asked. Assumes nothing.
 use mathlib.Core.Path.{sym, ap, _∙_}
-use Rattle.verdict.specs.declared.VerdictAnswer.{VerdictAnswer}
-use Rattle.verdict.specs.Ask.{askVerdict}
+use Rattle.questions.specs.declared.VerdictAnswer.{VerdictAnswer}
+use Rattle.questions.specs.Ask.{askVerdict}
 use Rattle.bits.specs.Laws.{neither-left}
-use Rattle.verdict.specs.Laws.{good-place}
+use Rattle.questions.specs.Laws.{good-place}
 use borrow.Author.Needs.{needs}
-use Rattle.verdict.proofs.ask_verdict.Statement.{statement}
-use Rattle.verdict.proofs.ask_verdict.Tie as tie
+use Rattle.questions.proofs.ask_verdict.Statement.{statement}
+use Rattle.questions.proofs.ask_verdict.Tie as tie
 
 is-bad-place-requires : tie.Need-is-bad-place-requires
 is-bad-place-requires c κs = search needs

@@ -1,11 +1,11 @@
 -- A place that isn't bad has a glyph, which is read and asked. Assumes nothing.
 use mathlib.Core.Path.{sym, ap, _∙_}
-use Rattle.verdict.specs.declared.MatchAnswer.{MatchAnswer}
-use Rattle.verdict.specs.Ask.{askMatch}
-use Rattle.verdict.specs.Laws.{good-place}
+use Rattle.questions.specs.declared.MatchAnswer.{MatchAnswer}
+use Rattle.questions.specs.Ask.{askMatch}
+use Rattle.questions.specs.Laws.{good-place}
 use borrow.Author.Needs.{needs}
-use Rattle.verdict.proofs.ask_match.Statement.{statement}
-use Rattle.verdict.proofs.ask_match.Tie as tie
+use Rattle.questions.proofs.ask_match.Statement.{statement}
+use Rattle.questions.proofs.ask_match.Tie as tie
 
 is-bad-place-requires : tie.Need-is-bad-place-requires
 is-bad-place-requires c κs = search needs

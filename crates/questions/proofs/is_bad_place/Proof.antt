@@ -1,8 +1,8 @@
 -- The two tests are the definition's. Assumes nothing.
-use Rattle.verdict.specs.Ask.{badPlace}
+use Rattle.questions.specs.Ask.{badPlace}
 use borrow.Author.Needs.{needs}
-use Rattle.verdict.proofs.is_bad_place.Statement.{statement}
-use Rattle.verdict.proofs.is_bad_place.Tie as tie
+use Rattle.questions.proofs.is_bad_place.Statement.{statement}
+use Rattle.questions.proofs.is_bad_place.Tie as tie
 
 is-ill-shaped-requires : tie.Need-is-ill-shaped-requires
 is-ill-shaped-requires c κs = search needs

@@ -8,15 +8,15 @@ use lib.ListN.{length, getD}
 use Rattle.glyph.specs.Glyph.{glyphsOf, blank, illShaped}
 use Rattle.glyph.specs.Sets.{oddSets}
 use Rattle.glyph.specs.Reply.{Reply}
 use Rattle.verdict.specs.declared.Matcher.{Matcher}
 use Rattle.verdict.specs.declared.Sign.{Sign}
 use Rattle.verdict.specs.declared.MaySkip.{MaySkip}
 use Rattle.verdict.specs.declared.MayMatch.{MayMatch}
 use Rattle.verdict.specs.declared.Verdict.{Verdict}
-use Rattle.verdict.specs.declared.SkipAnswer.{SkipAnswer}
-use Rattle.verdict.specs.declared.MatchAnswer.{MatchAnswer}
-use Rattle.verdict.specs.declared.VerdictAnswer.{VerdictAnswer}
+use Rattle.questions.specs.declared.SkipAnswer.{SkipAnswer}
+use Rattle.questions.specs.declared.MatchAnswer.{MatchAnswer}
+use Rattle.questions.specs.declared.VerdictAnswer.{VerdictAnswer}
 use Rattle.verdict.specs.Verdict.{skipOf, matchOf, verdict}
 
 -- refusal 1: a row not whole glyphs or over the limit, a place at or past its glyphs
 unfoldable pub badPlace : List ℕ → ℕ → Bool

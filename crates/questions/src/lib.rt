@@ -1,0 +1,70 @@
+// The two questions and the verdict as a user asks them: of a place of a row, answered or refused by 1.
+use verdict::Matcher;
+use verdict::MayMatch;
+use verdict::MaySkip;
+use verdict::Sign;
+use verdict::Verdict;
+ghost use mathlib.Core.Path.{_≡_};
+ghost use Rattle.questions.specs.Ask.{badPlace, askSkip, askMatch, askVerdict};
+
+pub enum SkipAnswer {
+    Said(MaySkip),
+    // Refusal 1.
+    Refused,
+}
+
+pub enum MatchAnswer {
+    Said(MayMatch),
+    // Refusal 1.
+    Refused,
+}
+
+pub enum VerdictAnswer {
+    Said(Verdict),
+    // Refusal 1.
+    Refused,
+}
+
+// May the glyph at a place of a row be skipped?
+pub fn ask_skip(row: &[u32], place: usize, m: Matcher, sets: &[u16]) -> SkipAnswer
+    ensures { λ r. ⌜ r ≡ askSkip (now (row .entry)) place m (now (sets .entry)) ⌝ }
+{
+    if is_bad_place(row, place) | glyph::is_odd(sets) {
+        return SkipAnswer::Refused;
+    }
+    SkipAnswer::Said(verdict::may_skip(m, sets, glyph::read(row, place)))
+}
+
+// May the glyph at a place of a row match?
+pub fn ask_match(row: &[u32], place: usize, m: Matcher, sign: Sign, syllable: u8) -> MatchAnswer
+    ensures { λ r. ⌜ r ≡ askMatch (now (row .entry)) place m sign syllable ⌝ }
+{
+    if is_bad_place(row, place) {
+        return MatchAnswer::Refused;
+    }
+    MatchAnswer::Said(verdict::may_match(m, sign, syllable, glyph::read(row, place)))
+}
+
+// What does a walk make of the glyph at a place of a row?
+pub fn ask_verdict(
+    row: &[u32],
+    place: usize,
+    m: Matcher,
+    sign: Sign,
+    syllable: u8,
+    sets: &[u16],
+) -> VerdictAnswer
+    ensures { λ r. ⌜ r ≡ askVerdict (now (row .entry)) place m sign syllable (now (sets .entry)) ⌝ }
+{
+    if is_bad_place(row, place) | glyph::is_odd(sets) {
+        return VerdictAnswer::Refused;
+    }
+    VerdictAnswer::Said(verdict::judge(m, sign, syllable, sets, glyph::read(row, place)))
+}
+
+// A question about no glyph: refusal 1.
+fn is_bad_place(row: &[u32], place: usize) -> bool
+    ensures { λ r. ⌜ r ≡ badPlace (now (row .entry)) place ⌝ }
+{
+    glyph::is_ill_shaped(row) | (glyph::count(row) <= place)
+}
