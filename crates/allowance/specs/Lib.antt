@@ -1,2 +1,4 @@
 pub mod Allowance
 pub mod Laws
+pub mod Charges
+pub mod ChargesLaws
