@@ -5,6 +5,8 @@ use verdict::MaySkip;
 use verdict::Sign;
 use verdict::Verdict;
 ghost use mathlib.Core.Path.{_≡_};
+ghost use mathlib.Core.Bool.{_||_};
+ghost use Rattle.glyph.specs.Sets.{oddSets};
 ghost use Rattle.questions.specs.Ask.{badPlace, askSkip, askMatch, askVerdict};
 
 pub enum SkipAnswer {
@@ -29,7 +31,7 @@ pub enum VerdictAnswer {
 pub fn ask_skip(row: &[u32], place: usize, m: Matcher, sets: &[u16]) -> SkipAnswer
     ensures { λ r. ⌜ r ≡ askSkip (now (row .entry)) place m (now (sets .entry)) ⌝ }
 {
-    if is_bad_place(row, place) | glyph::is_odd(sets) {
+    if is_refused(row, place, sets) {
         return SkipAnswer::Refused;
     }
     SkipAnswer::Said(verdict::may_skip(m, sets, glyph::read(row, place)))
@@ -56,13 +58,20 @@ pub fn ask_verdict(
 ) -> VerdictAnswer
     ensures { λ r. ⌜ r ≡ askVerdict (now (row .entry)) place m sign syllable (now (sets .entry)) ⌝ }
 {
-    if is_bad_place(row, place) | glyph::is_odd(sets) {
+    if is_refused(row, place, sets) {
         return VerdictAnswer::Refused;
     }
     VerdictAnswer::Said(verdict::judge(m, sign, syllable, sets, glyph::read(row, place)))
 }
 
-// A question about no glyph: refusal 1.
+// A question about no glyph, or by mark sets that aren't pairs: refusal 1.
+fn is_refused(row: &[u32], place: usize, sets: &[u16]) -> bool
+    ensures { λ r. ⌜ r ≡ (badPlace (now (row .entry)) place || oddSets (now (sets .entry))) ⌝ }
+{
+    is_bad_place(row, place) | glyph::is_odd(sets)
+}
+
+// A question about no glyph.
 fn is_bad_place(row: &[u32], place: usize) -> bool
     ensures { λ r. ⌜ r ≡ badPlace (now (row .entry)) place ⌝ }
 {

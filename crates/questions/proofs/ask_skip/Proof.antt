@@ -8,34 +8,23 @@ use borrow.Author.Needs.{needs}
 use Rattle.questions.proofs.ask_skip.Statement.{statement}
 use Rattle.questions.proofs.ask_skip.Tie as tie
 
-is-bad-place-requires : tie.Need-is-bad-place-requires
-is-bad-place-requires c κs = search needs
-
-is-odd-requires : tie.Need-is-odd-requires
-is-odd-requires c κs = search needs
+is-refused-requires : tie.Need-is-refused-requires
+is-refused-requires c κs = search needs
 
 returns : tie.Need-returns
 unfolding askSkip
-returns c = rw (← c .before .before .is-bad-place .ensures, ← c .before .is-odd .ensures, c .if1 .taken)
+returns c = rw (← c .before .is-refused .ensures, c .if1 .taken)
 
 read-requires : tie.Need-read-requires
-read-requires c κs = let a = c .before .before .before .before .before .args in
-    good-place (a .row .now) (a .place) (sym (c .before .before .is-bad-place .ensures) ∙ neither-left _ _ (c .if1 .left))
+read-requires c κs = let a = c .before .before .before .before .args in
+    good-place (a .row .now) (a .place) (neither-left _ _ (sym (c .before .is-refused .ensures) ∙ c .if1 .left))
 
 may-skip-requires : tie.Need-may-skip-requires
 may-skip-requires c κs = search needs
 
 returns-2 : tie.Need-returns-2
 unfolding askSkip
-returns-2 c = rw (← c .before .before .before .before .is-bad-place .ensures, ← c .before .before .before .is-odd .ensures, c .before .before .if1 .left, ← c .before .read .ensures) (ap SkipAnswer.Said (c .may-skip .ensures))
+returns-2 c = rw (← c .before .before .before .is-refused .ensures, c .before .before .if1 .left, ← c .before .read .ensures) (ap SkipAnswer.Said (c .may-skip .ensures))
 
 pub ask-skip-spec : {M : Type 1} → statement M
-ask-skip-spec =
-    tie.close
-    (tie.spec
-    is-bad-place-requires
-    is-odd-requires
-    returns
-    read-requires
-    may-skip-requires
-    returns-2)
+ask-skip-spec = tie.close (tie.spec is-refused-requires returns read-requires may-skip-requires returns-2)
