@@ -25,44 +25,11 @@ use Rattle.nested.specs.declared.RunEnding.{RunEnding}
 use Rattle.nested.specs.declared.RunAnswer.{RunAnswer}
 use Rattle.nested.specs.declared.Checked.{Checked}
 use Rattle.nested.specs.Calls.{checkedAll, runSays, Said, Whole, refusedBy, endingNumber, refusalNumber, runReply}
+use Rattle.nested.specs.Replies.{refused-reply, ended-number}
 use Rattle.nested.specs.Decided.{run-decided}
-use Rattle.nested.specs.Table.{Limited, Beyond, accepted, refused-12}
-
--- what two calls have in common: all but the allowance and the depth
-pub record Handed : Type 0 where
-  pub done : List ℕ
-  pub coming : List ℕ
-  pub place : Place
-  pub sets : List ℕ
-  pub book : List ℕ
-  pub records : List ℕ
-  pub match : InputMatch
-  pub given : Given
-
--- what a call leaves: its answer, and both rows afterwards
-pub record Left : Type 0 where
-  pub answer : RunAnswer
-  pub done : List ℕ
-  pub coming : List ℕ
-
-abbrev pub numberOf : Left → ℕ
-numberOf l = runReply (l .answer) .number
-
-abbrev pub repliesAs : ℕ → List ℕ → Left → Type 0
-repliesAs number values l = runReply (l .answer) ≡ record { number = number; values = values }
-
-abbrev pub checkedOf : Handed → ℕ → ℕ → Checked
-checkedOf h allowance depth = checkedAll (h .done) (h .coming) (h .place) (h .sets) (h .book) (h .records) (h .match) allowance depth
-
-abbrev pub stageOf : Handed → ℕ → ℕ → Stage
-stageOf h allowance depth = runSays (h .done) (h .coming) (h .place) (h .sets) (h .book) (h .records) (h .match) (h .given) allowance depth
-
--- a call: what the contract says of it; and that the words of the rows afterwards have 32 bits, which is no contract's to say but what their type
--- holds. Without it two rows that differ could be the same glyphs
-pub record Called (h : Handed) (allowance depth : ℕ) (l : Left) : Type 0 where
-  pub said : Said (checkedOf h allowance depth) (stageOf h allowance depth) (h .done) (h .coming) (l .done) (l .coming) (l .answer)
-  pub done-words : Small (l .done)
-  pub coming-words : Small (l .coming)
+use Rattle.nested.specs.Lines.{Limited, Beyond}
+use Rattle.nested.specs.Table.{accepted, refused-12}
+use Rattle.nested.specs.Handed.{Handed, Left, numberOf, repliesAs, checkedOf, stageOf, Called}
 
 -- the same number and values (spent, d, idx, the count, the positions), all 64 slots, and every word of both rows
 pub record Same (l l′ : Left) : Type 0 where
@@ -95,12 +62,6 @@ finished-by Finished z = refl
 finished-by Short z = absurd (omega arith)
 finished-by Deep z = absurd (omega arith)
 finished-by Full z = absurd (omega arith)
-
-ended-number : (r : RunAnswer) (e : Ending) → r .ending ≡ RunEnding.Ended e → runReply r .number ≡ endingNumber e
-ended-number r e q = rw q
-
-refused-reply : (r : RunAnswer) (why : Refusal) → r ≡ refusedBy why → runReply r ≡ record { number = refusalNumber why; values = [] }
-refused-reply r why q = rw q
 
 -- accepted, ended Finished, and what it left
 record Ended0 (k : Checked) (v : Stage) (done coming : List ℕ) (r : RunAnswer) : Type 0 where

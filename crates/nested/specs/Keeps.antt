@@ -26,8 +26,9 @@ use Rattle.nested.specs.declared.Checked.{Checked}
 use Rattle.chains.specs.Cycle.{book-fair}
 use Rattle.nested.specs.Calls.{Said, Whole}
 use Rattle.nested.specs.CallLaws.{places-show, moved-rise, index-is}
-use Rattle.nested.specs.Table.{Shaped, Readable, Usable, placesOf, good-by, accepted}
-use Rattle.nested.specs.Demand3.{Handed, Left, Called, checkedOf, stageOf}
+use Rattle.nested.specs.Lines.{Shaped, Usable, placesOf}
+use Rattle.nested.specs.Table.{Readable, good-by, accepted}
+use Rattle.nested.specs.Handed.{Handed, Left, Called, checkedOf, stageOf}
 use Rattle.matching.specs.Answers.{endOf}
 
 -- the text that a call left in the rows

@@ -1,6 +1,10 @@
 pub mod Calls
 pub mod CallLaws
 pub mod Decided
+pub mod Lines
+pub mod Replies
 pub mod Table
+pub mod Handed
+pub mod Demand1
 pub mod Demand3
 pub mod Keeps

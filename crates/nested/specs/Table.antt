@@ -23,52 +23,13 @@ use Rattle.book.specs.Book.{Lookup, mostRecords, Reading, Reads, Unreadable, re
 use Rattle.nested.specs.declared.Refusal.the-variants.{Shape, Cursor, Limits, Book, Match}
 use Rattle.nested.specs.declared.Checked.{Checked}
 use Rattle.nested.specs.Calls.{badRecords, checkedFirst, checkedPlaces, checkedMatch, checkedBook, checkedAll, then, risesTo, goodPlaces}
+use Rattle.nested.specs.Lines.{Shaped, Inside, Limited, Beyond, placesOf, Usable}
 use Rattle.nested.specs.CallLaws.{places-show}
 use Rattle.runs.specs.Run.{mostAllowance, mostDepth}
 
--- ---- the lines
-
--- line 1: both rows have a run's length, d is in its row, the text is at most the limit; mark sets and records are pairs, at most 16 records
-pub record Shaped (done coming : List ℕ) (p : Place) (sets records : List ℕ) : Type 0 where
-  pub done-long : length done ≡ words * limit
-  pub coming-long : length coming ≡ words * limit
-  pub d-inside : p .d ≤ limit
-  pub text-inside : p .d + (limit - p .idx) ≤ limit
-  pub sets-paired : length sets % 2 ≡ 0
-  pub records-paired : length records % 2 ≡ 0
-  pub records-few : length records ≤ 2 * mostRecords
-
--- line 2: the cursor is before the row's end
-abbrev pub Inside : Place → Type 0
-Inside p = p .idx < limit
-
--- line 12
-abbrev pub Limited : ℕ → ℕ → Type 0
-Limited allowance depth = (allowance ≤ mostAllowance) × (depth ≤ mostDepth)
-
--- line 12, where it refuses
-abbrev pub Beyond : ℕ → ℕ → Type 0
-Beyond allowance depth = (mostAllowance < allowance) ⊎ (mostDepth < depth)
-
--- line 11; for which words that is so: book's `reads-exactly`
+-- line 11, as the code tests it; for which words that is so: book's `reads-exactly`
 abbrev pub Readable : List ℕ → Type 0
 Readable book = (ls : List Lookup) × (readBook book ≡ Reads ls)
-
--- the positions that a match counts
-abbrev pub placesOf : InputMatch → List ℕ
-placesOf m = take (m .count) (m .positions)
-
--- line 7: a success with 1 to 64 positions, the first the cursor, each after the one before it, all below an end that is at most the row's
-pub record Usable (idx : ℕ) (m : InputMatch) : Type 0 where
-  pub end : ℕ
-  pub total : ℕ
-  pub success : m .answer ≡ InputAnswer.Matched end total
-  pub some : 1 ≤ m .count
-  pub few : m .count ≤ slots
-  pub first : getD (m .positions) 0 0 ≡ idx
-  pub rising : (i : ℕ) → suc i < length (placesOf m) → getD (placesOf m) i 0 < getD (placesOf m) (suc i) 0
-  pub below : (i : ℕ) → i < length (placesOf m) → getD (placesOf m) i 0 < end
-  pub within : end ≤ limit
 
 -- ---- the tests tell the lines
 

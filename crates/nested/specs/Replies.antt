@@ -1,0 +1,96 @@
+-- A reply tells the case that it is of: a refusal's number no ending has, and no two refusals and no two endings have one number.
+use mathlib.Core.Path.{_≡_, refl, sym, ap, _∙_}
+use mathlib.Core.Bool.{Bool, true, false, cond, _&&_, _||_, true≢false}
+use mathlib.Core.List.{List, [], _∷_}
+use mathlib.Core.Logic.{_↔_}
+use Prim.Native.Nat.{ℕ}
+use native.Mathlib.Omega.{arith}
+use lib.Dec.{eqb, leb}
+use lib.ListN.{length}
+use Rattle.glyph.specs.Reply.{Reply}
+use Rattle.runs.specs.declared.Ending.{Ending}
+use Rattle.runs.specs.declared.Ending.the-variants.{Finished, Short, Deep, Full}
+use Rattle.runs.specs.Run.{Stage}
+use Rattle.nested.specs.declared.Refusal.{Refusal}
+use Rattle.nested.specs.declared.Refusal.the-variants.{Shape, Cursor, Limits, Book, Match}
+use Rattle.nested.specs.declared.RunEnding.{RunEnding}
+use Rattle.nested.specs.declared.RunAnswer.{RunAnswer}
+use Rattle.nested.specs.declared.Checked.{Checked}
+use Rattle.nested.specs.Calls.{Said, Whole, refusedBy, endingNumber, refusalNumber, runReply}
+
+pub refused-reply : (r : RunAnswer) (why : Refusal) → r ≡ refusedBy why → runReply r ≡ record { number = refusalNumber why; values = [] }
+refused-reply r why q = rw q
+
+pub ended-number : (r : RunAnswer) (e : Ending) → r .ending ≡ RunEnding.Ended e → runReply r .number ≡ endingNumber e
+ended-number r e q = rw q
+
+-- ---- numbers tell apart
+
+abbrev refusalBy : ℕ → Refusal
+refusalBy n = cond (eqb n 1) Shape (cond (eqb n 2) Cursor (cond (eqb n 12) Limits (cond (eqb n 11) Book Match)))
+
+refusal-back : (why : Refusal) → refusalBy (refusalNumber why) ≡ why
+refusal-back Shape = refl
+refusal-back Cursor = refl
+refusal-back Limits = refl
+refusal-back Book = refl
+refusal-back Match = refl
+
+abbrev endingBy : ℕ → Ending
+endingBy n = cond (eqb n 8) Short (cond (eqb n 9) Deep (cond (eqb n 10) Full Finished))
+
+ending-back : (e : Ending) → endingBy (endingNumber e) ≡ e
+ending-back Finished = refl
+ending-back Short = refl
+ending-back Deep = refl
+ending-back Full = refl
+
+abbrev isEnding : ℕ → Bool
+isEnding n = eqb n 0 || (leb 8 n && leb n 10)
+
+ends : (e : Ending) → isEnding (endingNumber e) ≡ true
+ends Finished = refl
+ends Short = refl
+ends Deep = refl
+ends Full = refl
+
+refuses : (why : Refusal) → isEnding (refusalNumber why) ≡ false
+refuses Shape = refl
+refuses Cursor = refl
+refuses Limits = refl
+refuses Book = refl
+refuses Match = refl
+
+-- ---- what a reply of a call tells
+
+-- an ending has values
+pub no-values : (v : Stage) (done coming : List ℕ) (r : RunAnswer) → Whole v done coming r → (n : ℕ) → runReply r ≡ record { number = n; values = [] } → ⊥
+no-values v done coming r w n e = let none = ap (λ (x : Reply). length (x .values)) (rw (w .ending) at e) in omega arith
+
+-- a number with no values is a refusal's
+pub told-refused : (k : Checked) (v : Stage) (done coming done′ coming′ : List ℕ) (r : RunAnswer) (why : Refusal) → Said k v done coming done′ coming′ r
+    → (runReply r ≡ record { number = refusalNumber why; values = [] }) ↔ (k ≡ Checked.Refused why)
+told-refused (Checked.Refused w) v done coming done′ coming′ r why s = (
+  λ e.
+      let same : refusalNumber w ≡ refusalNumber why = ap (λ (x : Reply). x .number) (sym (refused-reply r w (s .0)) ∙ e) in
+      ap Checked.Refused (sym (refusal-back w) ∙ ap refusalBy same ∙ refusal-back why),
+  λ e. let same : w ≡ why = cc in refused-reply r why (s .0 ∙ ap refusedBy same),
+)
+told-refused Checked.Accepted v done coming done′ coming′ r why s = (
+  λ e. absurd (no-values v done′ coming′ r s (refusalNumber why) e),
+  λ e. let z : _≡_ {A = ℕ} 0 1 = cc in absurd (omega arith),
+)
+
+-- an ending's number is that ending's
+pub told-ended : (k : Checked) (v : Stage) (done coming done′ coming′ : List ℕ) (r : RunAnswer) (e : Ending) → Said k v done coming done′ coming′ r
+    → (runReply r .number ≡ endingNumber e) ↔ ((k ≡ Checked.Accepted) × (v .run .ending ≡ e))
+told-ended (Checked.Refused w) v done coming done′ coming′ r e s = (
+  λ z.
+      let same : refusalNumber w ≡ endingNumber e = ap (λ (x : Reply). x .number) (sym (refused-reply r w (s .0))) ∙ z in
+      absurd (true≢false (sym (ends e) ∙ ap isEnding (sym same) ∙ refuses w)),
+  λ h. let o = h .0 in let z : _≡_ {A = ℕ} 0 1 = cc in absurd (omega arith),
+)
+told-ended Checked.Accepted v done coming done′ coming′ r e s = (
+  λ z. (refl, sym (ending-back (v .run .ending)) ∙ ap endingBy (sym (ended-number r (v .run .ending) (s .ending)) ∙ z) ∙ ending-back e),
+  λ h. ended-number r (v .run .ending) (s .ending) ∙ ap endingNumber (h .1),
+)
