@@ -6,5 +6,6 @@ pub mod Passing
 pub mod Laws
 pub mod Backward
 pub mod Parts
+pub mod Promise
 pub mod Accepted
 pub mod Table
