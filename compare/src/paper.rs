@@ -263,3 +263,8 @@ pub fn faults(row: &[u32], len: Option<usize>, place: Option<usize>, sets: &[u16
     ];
     (0..holds.len()).filter(|&i| holds[i]).collect()
 }
+
+/// A question needs a glyph, so its place may not be its row's end either.
+pub fn refuses_question(row: &[u32], place: usize, sets: &[u16]) -> bool {
+    place >= row.len() / WORDS || !faults(row, None, None, sets).is_empty()
+}

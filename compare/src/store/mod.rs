@@ -1,6 +1,7 @@
-//! Writes the stored lists that proved programs replay. Only the original is
-//! asked, and the same call writes the same file on every machine. `differences`
-//! alone has our answers: to the questions on which the two are known to differ.
+//! Writes the stored lists that proved programs replay. The original is asked,
+//! or, for a refusal, which it hasn't, the second reading; the same call writes
+//! the same file on every machine. `differences` alone has our answers: to the
+//! questions on which the two are known to differ.
 //!
 //! A list is lines of words of 32 bits, and nothing else: each word is eight
 //! capital hexadecimal digits and one byte more, a blank between the words of

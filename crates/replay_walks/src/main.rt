@@ -1,13 +1,16 @@
-// Replays a stored list of the original's answers on the question may skip, the verdict and both walks (standard input;
+// Replays a stored list of the original's answers on the questions may skip and may match, the verdict and both walks (standard input;
 // compare/README.md says how it was made) and prints how many were asked of each kind and how many came out otherwise.
-// A line's words: the operation (30 may skip, 31 verdict, 32 forward, 33 backward), GPOS, auto-ZWNJ, auto-ZWJ, syllables, mask, props,
+// A line's words: the operation (30 may skip, 31 verdict, 32 forward, 33 backward, 34 may match), GPOS, auto-ZWNJ, auto-ZWJ, syllables, mask, props,
 // context, test, value, syllable, place, len, how many words of mark sets and these, how many words of the row and these, and the answer.
-// An operation of 100 and more is the same question where ours and the original's answers differ (docs/DIFFERENCES.md), with ours.
+// An operation from 100 on is the same question where ours and the original's answers differ (docs/DIFFERENCES.md), with ours; from 200 on it is
+// one that is refused by 1, with 9 as its answer.
+use questions::MatchAnswer;
 use questions::SkipAnswer;
 use questions::VerdictAnswer;
 use stored::part;
 use stored::word;
 use verdict::Matcher;
+use verdict::MayMatch;
 use verdict::MaySkip;
 use verdict::Settings;
 use verdict::Sign;
@@ -18,7 +21,9 @@ use walk::Walked;
 
 struct Tally {
     differences: u64,
+    refused: u64,
     skips: u64,
+    matches: u64,
     verdicts: u64,
     forward: u64,
     backward: u64,
@@ -60,9 +65,11 @@ fn word_room() -> [u32; 116508] {
 
 fn report(t: Tally) {
     say(b"may skip ", t.skips);
+    say(b", may match ", t.matches);
     say(b", verdicts ", t.verdicts);
     say(b", walks forward ", t.forward);
     say(b", backward ", t.backward);
+    say(b", refused ", t.refused);
     say(b", differences ", t.differences);
     say(b"; answered otherwise ", t.wrong);
     io::write_all(1, b"\n");
@@ -76,7 +83,9 @@ fn say(words: &[u8], n: u64) {
 fn replay(words: &[u32], count: usize) -> Tally {
     let mut tally = Tally {
         differences: 0,
+        refused: 0,
         skips: 0,
+        matches: 0,
         verdicts: 0,
         forward: 0,
         backward: 0,
@@ -98,8 +107,10 @@ fn replay(words: &[u32], count: usize) -> Tally {
 
 fn counted(t: Tally, op: u32, right: bool) -> Tally {
     Tally {
-        differences: more(t.differences, 100 <= op),
+        differences: more(t.differences, (100 <= op) & (op < 200)),
+        refused: more(t.refused, 200 <= op),
         skips: more(t.skips, op == 30),
+        matches: more(t.matches, op == 34),
         verdicts: more(t.verdicts, op == 31),
         forward: more(t.forward, op == 32),
         backward: more(t.backward, op == 33),
@@ -199,6 +210,11 @@ fn answered(q: Question, row: &[u32], sets: &[u16], words: &[u32], k: usize) -> 
             walk::forward(row, q.len, q.place, m, s, q.syllable, sets),
             k,
         ),
+        34 => said_is(
+            words,
+            match_number(questions::ask_match(row, q.place, m, s, q.syllable)),
+            k,
+        ),
         _ => walk_is(
             words,
             walk::backward(row, q.place, m, s, q.syllable, sets),
@@ -222,6 +238,17 @@ fn skip_number(a: SkipAnswer) -> u32 {
             MaySkip::No => 0,
             MaySkip::Yes => 1,
             MaySkip::Maybe => 2,
+        },
+    }
+}
+
+fn match_number(a: MatchAnswer) -> u32 {
+    match a {
+        MatchAnswer::Refused => 9,
+        MatchAnswer::Said(s) => match s {
+            MayMatch::No => 0,
+            MayMatch::Yes => 1,
+            MayMatch::Maybe => 2,
         },
     }
 }
