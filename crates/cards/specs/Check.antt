@@ -13,7 +13,7 @@ use Rattle.matching.specs.Take.{takes, reached}
 use Rattle.ligature.specs.Ligature.{mayJoin, baseBefore, baseSkips}
 use Rattle.matching.specs.Matchers.{inputBy, inputOn, aheadOn, backOn}
 use Rattle.matching.specs.Answers.{ligated}
-use Rattle.matching.specs.Calls.{badText, inputFit, inputOf}
+use Rattle.calls.specs.Calls.{badText, inputFit, inputOf}
 use Rattle.glyph.specs.Write.{withId}
 use Rattle.book.specs.Book.{recordsOf, counted, bodyOf, firstOf, readLookups, readBook, lookupAt}
 use Rattle.runs.specs.Repair.{following, gained, lost, grownBy, shrunkBy, repaired}

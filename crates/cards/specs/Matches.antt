@@ -8,7 +8,7 @@ use Rattle.verdict.specs.declared.Table.the-variants.{Gsub}
 use Rattle.verdict.specs.declared.Test.the-variants.{Equal}
 use Rattle.matching.specs.declared.Lookup.{Lookup}
 use Rattle.matching.specs.Answers.{inputReply}
-use Rattle.matching.specs.Calls.{inputOf}
+use Rattle.calls.specs.Calls.{inputOf}
 use Rattle.cards.specs.Card.{Card}
 use Rattle.cards.specs.Signs.{sign, letter}
 

@@ -5,7 +5,7 @@ use matching::ContextMatch;
 use matching::InputAnswer;
 use matching::InputMatch;
 ghost use mathlib.Core.Path.{_≡_};
-ghost use Rattle.matching.specs.Calls.{inputOf, aheadOf, backOf};
+ghost use Rattle.calls.specs.Calls.{inputOf, aheadOf, backOf};
 ghost use Rattle.numbers.specs.Numbers.{testOf};
 ghost use Rattle.desk.specs.Matches.{lookupOf, toldOf, matchedOf, placedOf};
 
@@ -40,7 +40,7 @@ pub extern "C" fn cb_match_input(
 ) -> Matched
     ensures { λ r. ⌜ r ≡ matchedOf (inputOf (now (done .entry)) d (now (coming .entry)) len idx (lookupOf lookup) (now (sets .entry)) (testOf test) (now (values .entry))) ⌝ }
 {
-    input_told(matching::match_input(
+    input_told(calls::match_input(
         done,
         d,
         coming,
@@ -68,7 +68,7 @@ pub extern "C" fn cb_match_lookahead(
 ) -> Placed
     ensures { λ r. ⌜ r ≡ placedOf (aheadOf (now (done .entry)) d (now (coming .entry)) len idx start (lookupOf lookup) (now (sets .entry)) (testOf test) (now (values .entry))) ⌝ }
 {
-    context_told(matching::match_lookahead(
+    context_told(calls::match_lookahead(
         done,
         d,
         coming,
@@ -96,7 +96,7 @@ pub extern "C" fn cb_match_backtrack<'a>(
 ) -> Placed
     ensures { λ r. ⌜ r ≡ placedOf (backOf (now (done .entry)) d (now (coming .entry)) len idx (lookupOf lookup) (now (sets .entry)) (testOf test) (now (values .entry))) ⌝ }
 {
-    context_told(matching::match_backtrack(
+    context_told(calls::match_backtrack(
         done,
         d,
         coming,

@@ -1,6 +1,6 @@
 // What a frame of the bench tape was answered, and why: on standard input frames, a line each; on standard output what the
 // matcher saw of each glyph, in words, and the tape's answer. What is said comes from proved functions: `explaining` and `wording` for the
-// reasons, `frame`, `matching` and `tape` for the answer.
+// reasons, `frame`, `calls` and `tape` for the answer.
 mod answer;
 mod head;
 mod rows;
@@ -207,7 +207,7 @@ fn tell_match(
     let sets = [0u16; 0];
     let d = glyph::count(before);
     let len = glyph::count(text);
-    let found = matching::match_input(
+    let found = calls::match_input(
         before,
         d,
         text,

@@ -4,5 +4,6 @@ pub mod Lossless
 pub mod Reply
 pub mod Sets
 pub mod SetLaws
+pub mod Tests
 pub mod Write
 pub mod WriteLaws

@@ -1,15 +1,10 @@
 pub mod Take
 pub mod Matchers
 pub mod Answers
-pub mod Calls
 pub mod Going
 pub mod Onward
-pub mod Accepted
 pub mod Demand2
 pub mod Demand2Laws
 pub mod Rising
 pub mod Shift
 pub mod Promises
-pub mod Kept
-pub mod Table
-pub mod Total

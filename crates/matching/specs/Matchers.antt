@@ -54,6 +54,10 @@ unfoldable pub inputOn : Lookup → List ℕ → Test → List Glyph → List Gl
 inputOn lookup sets test done coming idx values =
     inputBy (inputMatcherOf lookup) sets test (searchedGlyphs (lookup .settings .table) done) coming idx values
 
+-- what input matching is handed once a call isn't refused
+abbrev pub InputReady : List Glyph → ℕ → List ℕ → Type 0
+InputReady coming idx values = (idx < length coming) × (length coming ≤ limit) × (length values < slots)
+
 -- from a start, the nearest value first; the starting syllable is handed in
 unfoldable pub aheadOn : Lookup → List ℕ → Test → List Glyph → ℕ → ℕ → List ℕ → Outcome
 aheadOn lookup sets test coming start syllable values =

@@ -13,10 +13,8 @@ ghost use Prim.Native.Nat.{_+_, _^_, _≤_, _<_};
 ghost use lib.ListN.{length};
 ghost use Rattle.glyph.specs.Glyph.{glyphsOf};
 ghost use Rattle.matching.specs.Take.{slots, ahead, behind};
-ghost use Rattle.matching.specs.Matchers.{inputBy, inputOn, aheadOn, backOn, firstOrNone, backwardRow, searchedGlyphs};
-ghost use Rattle.matching.specs.Answers.{slotted, without, countOf, madeOf, inputTold, contextTold};
-ghost use Rattle.matching.specs.Calls.{badText, inputFit, aheadFit, backFit, inputOf, aheadOf, backOf};
-ghost use Rattle.matching.specs.Accepted.{InputReady};
+ghost use Rattle.matching.specs.Matchers.{InputReady, inputBy, inputOn, aheadOn, backOn, firstOrNone, backwardRow, searchedGlyphs};
+ghost use Rattle.matching.specs.Answers.{slotted, countOf, madeOf, inputTold, contextTold};
 
 // Positions of a match, at most.
 pub const MAX_CONTEXT_LENGTH: usize = 64;
@@ -38,12 +36,6 @@ pub enum Refusal {
     Values,
     // Refusal 6.
     Start,
-}
-
-// What the tests before matching say.
-pub enum Fit {
-    Fits,
-    Refused(Refusal),
 }
 
 pub enum InputAnswer {
@@ -69,186 +61,6 @@ pub enum ContextMatch {
     Refused(Refusal),
     // A walk stopped or ran out, by its extent: refusal 4.
     Lost(usize),
-}
-
-// The values against the glyphs after the cursor.
-pub fn match_input(
-    done: &[u32],
-    d: usize,
-    coming: &[u32],
-    len: usize,
-    idx: usize,
-    lookup: Lookup,
-    sets: &[u16],
-    test: Test,
-    values: &[u32],
-) -> InputMatch
-    ensures { λ r. ⌜ r ≡ inputOf (now (done .entry)) d (now (coming .entry)) len idx lookup (now (sets .entry)) test (now (values .entry)) ⌝ }
-{
-    match input_fit(done, d, coming, len, idx, sets, values.len()) {
-        Fit::Refused(why) => return refuse(InputAnswer::Refused(why)),
-        Fit::Fits => {}
-    }
-    let before = glyph::first(done, d);
-    let text = glyph::first(coming, len);
-    let settings = lookup.settings;
-    let table = settings.table;
-    let m = verdict::matcher_of(settings, false, lookup.mask, lookup.props);
-    let searched = searched_row(table, before);
-    let mut positions = [0u16; 64];
-    let answer = take_input(searched, text, idx, m, sets, test, values, &mut positions);
-    InputMatch {
-        answer,
-        count: count_of(answer, values.len()),
-        positions,
-    }
-}
-
-// The values against the glyphs from a start on.
-pub fn match_lookahead(
-    done: &[u32],
-    d: usize,
-    coming: &[u32],
-    len: usize,
-    idx: usize,
-    start: usize,
-    lookup: Lookup,
-    sets: &[u16],
-    test: Test,
-    values: &[u32],
-) -> ContextMatch
-    ensures { λ r. ⌜ r ≡ aheadOf (now (done .entry)) d (now (coming .entry)) len idx start lookup (now (sets .entry)) test (now (values .entry)) ⌝ }
-{
-    match ahead_fit(done, d, coming, len, idx, start, sets, values.len()) {
-        Fit::Refused(why) => return ContextMatch::Refused(why),
-        Fit::Fits => {}
-    }
-    let text = glyph::first(coming, len);
-    let cursor = glyph::read(text, idx);
-    lookahead(text, start, cursor.syllable, lookup, sets, test, values)
-}
-
-// The values against the glyphs of the backward row, from its end.
-pub fn match_backtrack<'a>(
-    done: &'a [u32],
-    d: usize,
-    coming: &'a [u32],
-    len: usize,
-    idx: usize,
-    lookup: Lookup,
-    sets: &[u16],
-    test: Test,
-    values: &[u32],
-) -> ContextMatch
-    ensures { λ r. ⌜ r ≡ backOf (now (done .entry)) d (now (coming .entry)) len idx lookup (now (sets .entry)) test (now (values .entry)) ⌝ }
-{
-    match back_fit(done, d, coming, len, idx, sets, values.len()) {
-        Fit::Refused(why) => return ContextMatch::Refused(why),
-        Fit::Fits => {}
-    }
-    let settings = lookup.settings;
-    let table = settings.table;
-    let text = glyph::first(coming, len);
-    let row = backward_row(table, done, d, text, idx);
-    let cursor = glyph::read(text, idx);
-    backtrack(row, cursor.syllable, lookup, sets, test, values)
-}
-
-// ---- what the calls are refused for
-
-// A text whose rows, lengths or mark sets are ill shaped.
-fn is_bad_text(done: &[u32], d: usize, coming: &[u32], len: usize, sets: &[u16]) -> bool
-    ensures { λ r. ⌜ r ≡ badText (now (done .entry)) d (now (coming .entry)) len (now (sets .entry)) ⌝ }
-{
-    glyph::is_ill_shaped(done)
-        | (glyph::count(done) < d)
-        | glyph::is_ill_shaped(coming)
-        | (glyph::count(coming) < len)
-        | glyph::is_odd(sets)
-}
-
-fn input_fit(
-    done: &[u32],
-    d: usize,
-    coming: &[u32],
-    len: usize,
-    idx: usize,
-    sets: &[u16],
-    values: usize,
-) -> Fit
-    ensures { λ r. ⌜ r ≡ inputFit (now (done .entry)) d (now (coming .entry)) len idx (now (sets .entry)) values ⌝ }
-{
-    if is_bad_text(done, d, coming, len, sets) {
-        return Fit::Refused(Refusal::Shape);
-    }
-    if len <= idx {
-        return Fit::Refused(Refusal::Cursor);
-    }
-    if MAX_CONTEXT_LENGTH <= values {
-        return Fit::Refused(Refusal::Values);
-    }
-    Fit::Fits
-}
-
-fn ahead_fit(
-    done: &[u32],
-    d: usize,
-    coming: &[u32],
-    len: usize,
-    idx: usize,
-    start: usize,
-    sets: &[u16],
-    values: usize,
-) -> Fit
-    ensures { λ r. ⌜ r ≡ aheadFit (now (done .entry)) d (now (coming .entry)) len idx start (now (sets .entry)) values ⌝ }
-{
-    if is_bad_text(done, d, coming, len, sets) | (len < start) {
-        return Fit::Refused(Refusal::Shape);
-    }
-    if len <= idx {
-        return Fit::Refused(Refusal::Cursor);
-    }
-    if MAX_CONTEXT_LENGTH < values {
-        return Fit::Refused(Refusal::Values);
-    }
-    if start == 0 {
-        return Fit::Refused(Refusal::Start);
-    }
-    Fit::Fits
-}
-
-fn back_fit(
-    done: &[u32],
-    d: usize,
-    coming: &[u32],
-    len: usize,
-    idx: usize,
-    sets: &[u16],
-    values: usize,
-) -> Fit
-    ensures { λ r. ⌜ r ≡ backFit (now (done .entry)) d (now (coming .entry)) len idx (now (sets .entry)) values ⌝ }
-{
-    if is_bad_text(done, d, coming, len, sets) {
-        return Fit::Refused(Refusal::Shape);
-    }
-    if len <= idx {
-        return Fit::Refused(Refusal::Cursor);
-    }
-    if MAX_CONTEXT_LENGTH < values {
-        return Fit::Refused(Refusal::Values);
-    }
-    Fit::Fits
-}
-
-// An answer that has no positions.
-fn refuse(answer: InputAnswer) -> InputMatch
-    ensures { λ r. ⌜ r ≡ without answer ⌝ }
-{
-    InputMatch {
-        answer,
-        count: 0,
-        positions: [0u16; 64],
-    }
 }
 
 // ---- the matchers over glyphs, every one of which counts
@@ -280,7 +92,7 @@ pub fn input(
 }
 
 // How many positions an answer has: the cursor and one for each value.
-fn count_of(answer: InputAnswer, values: usize) -> usize
+pub fn count_of(answer: InputAnswer, values: usize) -> usize
     requires { ⌜ values < slots ⌝ }
     ensures { λ r. ⌜ r ≡ countOf answer values ⌝ }
 {
@@ -293,7 +105,7 @@ fn count_of(answer: InputAnswer, values: usize) -> usize
 }
 
 // Under GPOS nothing is searched for a base.
-fn searched_row(table: Table, before: &[u32]) -> &[u32]
+pub fn searched_row(table: Table, before: &[u32]) -> &[u32]
     ensures { λ r. ⌜ glyphsOf (now r) ≡ searchedGlyphs table (glyphsOf (now (before .entry))) ⌝ }
 {
     match table {
@@ -303,7 +115,7 @@ fn searched_row(table: Table, before: &[u32]) -> &[u32]
 }
 
 // Input with a matcher. The positions are written to slots that are lent, so that they are handed on only once.
-fn take_input(
+pub fn take_input(
     searched: &[u32],
     text: &[u32],
     idx: usize,

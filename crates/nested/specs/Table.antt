@@ -13,12 +13,12 @@ use lib.Seq.{getD-take}
 use Rattle.bits.specs.Laws.{and-left, and-right, or-left, or-right}
 use Rattle.glyph.specs.Glyph.{words, limit}
 use Rattle.glyph.specs.Sets.{oddSets}
+use Rattle.glyph.specs.Tests.{tests-by, both, over, paired}
 use Rattle.text.specs.declared.Place.{Place}
 use Rattle.text.specs.Text.{unfit, wrongLength, pastEnd}
 use Rattle.matching.specs.declared.InputAnswer.{InputAnswer}
 use Rattle.matching.specs.declared.InputMatch.{InputMatch}
 use Rattle.matching.specs.Take.{slots}
-use Rattle.matching.specs.Table.{tests-by, both, over, paired}
 use Rattle.book.specs.Book.{Lookup, mostRecords, Reading, Reads, Unreadable, readBook, isRead}
 use Rattle.nested.specs.declared.Refusal.the-variants.{Shape, Cursor, Limits, Book, Match}
 use Rattle.nested.specs.declared.Checked.{Checked}

@@ -162,12 +162,12 @@ fn asked<'a>(
     match op {
         40 => input_is(
             words,
-            matching::match_input(done, d, coming, len, idx, lookup, sets, test, values),
+            calls::match_input(done, d, coming, len, idx, lookup, sets, test, values),
             k,
         ),
         41 => context_is(
             words,
-            matching::match_lookahead(
+            calls::match_lookahead(
                 done,
                 d,
                 coming,
@@ -183,7 +183,7 @@ fn asked<'a>(
         ),
         _ => context_is(
             words,
-            matching::match_backtrack(done, d, coming, len, idx, lookup, sets, test, values),
+            calls::match_backtrack(done, d, coming, len, idx, lookup, sets, test, values),
             k,
         ),
     }

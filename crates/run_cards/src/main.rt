@@ -29,7 +29,7 @@ fn on(row: &[u32], values: &[u32]) -> InputMatch {
         mask: 1,
         props: 0,
     };
-    matching::match_input(
+    calls::match_input(
         &[],
         0,
         row,

@@ -7,7 +7,7 @@ use Rattle.verdict.specs.declared.Test.{Test}
 use Rattle.matching.specs.declared.Lookup.{Lookup}
 use Rattle.matching.specs.declared.InputMatch.{InputMatch}
 use Rattle.matching.specs.Answers.{inputReply}
-use Rattle.matching.specs.Calls.{inputOf}
+use Rattle.calls.specs.Calls.{inputOf}
 use Rattle.frame.specs.Frame.{Frame, Reading, that, none, frameOf}
 use Rattle.tape.specs.Line.{answerBytes, noFrame, ended}
 

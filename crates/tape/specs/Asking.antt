@@ -4,7 +4,7 @@ use mathlib.Core.List.{List, []}
 use Rattle.glyph.specs.Glyph.{words}
 use Rattle.verdict.specs.declared.Test.{Test}
 use Rattle.matching.specs.declared.InputMatch.{InputMatch}
-use Rattle.matching.specs.Calls.{inputOf}
+use Rattle.calls.specs.Calls.{inputOf}
 use Rattle.frame.specs.declared.Head.{Head}
 
 -- `matchOf`, of a frame's numbers and its lists

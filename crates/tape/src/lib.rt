@@ -208,7 +208,7 @@ fn ask(
     let asked = &values[..];
     let before = &done[..];
     let text = &coming[..];
-    matching::match_input(
+    calls::match_input(
         &before[0..d],
         d / glyph::WORDS,
         &text[0..c],

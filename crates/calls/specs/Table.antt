@@ -1,22 +1,21 @@
 -- The refusals of the three calls as 01's table has them ("When the desk says no"): each number exactly when its line holds and no line before it does,
 -- in the order 1, 2, 3, 6; and let through exactly when none holds. That a call answers with this refusal, and else with none of these: Kept.
-use mathlib.Core.Path.{_≡_, refl, sym, subst, _∙_}
-use mathlib.Core.Bool.{Bool, true, false, cond, not, _||_, true≢false}
+use mathlib.Core.Path.{_≡_, refl, subst}
+use mathlib.Core.Bool.{Bool, true, false, cond, _||_}
 use mathlib.Core.List.{List}
 use mathlib.Core.Logic.{_↔_}
 use Prim.Native.Nat.{ℕ, _%_, _≤_, _<_}
 use native.Mathlib.Omega.{arith}
-use borrow.Author.Tests.{le-leb, lt-leb, lt-ltb, le-ltb, eq-eqb, ne-eqb, leb-true, leb-false, ltb-true, ltb-false, eqb-true, eqb-false, not-false}
 use lib.Dec.{eqb, leb, ltb}
 use lib.ListN.{length}
-use Rattle.bits.specs.Laws.{neither-left, neither-right}
 use Rattle.glyph.specs.Glyph.{limit, Row, glyphsOf, illShaped}
 use Rattle.glyph.specs.Laws.{well-shaped}
 use Rattle.glyph.specs.Sets.{oddSets}
+use Rattle.glyph.specs.Tests.{Tests, tests-by, both, at-or-past, over, none, never, paired}
 use Rattle.matching.specs.declared.Refusal.the-variants.{Shape, Cursor, Values, Start}
-use Rattle.matching.specs.declared.Fit.{Fit}
 use Rattle.matching.specs.Take.{slots}
-use Rattle.matching.specs.Calls.{badText, inputFit, aheadFit, backFit}
+use Rattle.calls.specs.declared.Fit.{Fit}
+use Rattle.calls.specs.Calls.{badText, inputFit, aheadFit, backFit}
 
 -- line 1: both rows are whole glyphs, at most the limit, d and len are in their rows, and mark sets are pairs
 pub record Shaped (done : List ℕ) (d : ℕ) (coming : List ℕ) (len : ℕ) (sets : List ℕ) : Type 0 where
@@ -27,39 +26,6 @@ pub record Shaped (done : List ℕ) (d : ℕ) (coming : List ℕ) (len : ℕ) (s
   pub coming-short : length (glyphsOf coming) ≤ limit
   pub len-inside : len ≤ length (glyphsOf coming)
   pub sets-paired : length sets % 2 ≡ 0
-
--- ---- a test of a line
-
--- it is false where the line lets pass, and true where it refuses
-pub record Tests (b : Bool) (Good Bad : Type 0) : Type 0 where
-  pub good : (b ≡ false) ↔ Good
-  pub bad : (b ≡ true) ↔ Bad
-
--- where refusing is not letting pass
-pub tests-by : {P : Type 0} (b : Bool) → ((b ≡ false) ↔ P) → Tests b P (P → ⊥)
-tests-by {P} b t = record { good = t; bad = (λ e h. true≢false (sym e ∙ t .1 h), says b t) }
-  where
-    says : (c : Bool) → ((c ≡ false) ↔ P) → (P → ⊥) → c ≡ true
-    says true u n = refl
-    says false u n = absurd (n (u .0 refl))
-
-pub both : {P Q : Type 0} (a b : Bool) → ((a ≡ false) ↔ P) → ((b ≡ false) ↔ Q) → ((a || b) ≡ false) ↔ (P × Q)
-both a b p q = (λ e. (p .0 (neither-left a b e), q .0 (neither-right a b e)), λ h. rw (p .1 (h .0), q .1 (h .1)))
-
-at-or-past : (a b : ℕ) → Tests (leb a b) (b < a) (a ≤ b)
-at-or-past a b = record { good = (leb-false a b, lt-leb a b); bad = (leb-true a b, le-leb a b) }
-
-pub over : (a b : ℕ) → Tests (ltb a b) (b ≤ a) (a < b)
-over a b = record { good = (ltb-false a b, le-ltb a b); bad = (ltb-true a b, lt-ltb a b) }
-
-none : (n : ℕ) → Tests (eqb n 0) (1 ≤ n) (n ≡ 0)
-none n = record { good = (λ e. let z = eqb-false n 0 e in omega arith, λ h. ne-eqb n 0 (λ z. omega arith)); bad = (eqb-true n 0, eq-eqb n 0) }
-
-never : Tests false (Unit {0}) ⊥
-never = record { good = (λ e. tt, λ u. refl); bad = (λ e. true≢false (sym e), λ z. absurd z) }
-
-pub paired : (sets : List ℕ) → (oddSets sets ≡ false) ↔ (length sets % 2 ≡ 0)
-paired sets = (λ e. eqb-true (length sets % 2) 0 (not-false (eqb (length sets % 2) 0) e), λ e. rw (eq-eqb (length sets % 2) 0 e))
 
 module _ (done : List ℕ) (d : ℕ) (coming : List ℕ) (len : ℕ) (sets : List ℕ) where
   shaped : (badText done d coming len sets ≡ false) ↔ Shaped done d coming len sets

@@ -7,17 +7,17 @@ use lib.ListN.{length, getD, take, drop}
 use Rattle.glyph.specs.declared.Glyph.{Glyph}
 use Rattle.glyph.specs.Glyph.{words, glyphOf, glyphs, glyphsOf, blank}
 use Rattle.verdict.specs.declared.Test.{Test}
 use Rattle.matching.specs.declared.Lookup.{Lookup}
-use Rattle.matching.specs.declared.Fit.{Fit}
 use Rattle.matching.specs.declared.InputAnswer.{InputAnswer}
 use Rattle.matching.specs.Take.{Outcome, taken, lost, unlike}
 use Rattle.matching.specs.Matchers.{inputOn}
 use Rattle.matching.specs.Answers.{ligated, totalOf, inputTold}
-use Rattle.matching.specs.Calls.{inputFit, inputUnless, inputOf}
-use Rattle.matching.specs.Accepted.{input-good}
 use Rattle.matching.specs.Demand2Laws.{demand-2}
 use Rattle.matching.specs.Rising.{as-many}
-use Rattle.matching.specs.Kept.{input-takes}
+use Rattle.calls.specs.declared.Fit.{Fit}
+use Rattle.calls.specs.Calls.{inputFit, inputUnless, inputOf}
+use Rattle.calls.specs.Accepted.{input-good}
+use Rattle.calls.specs.Kept.{input-takes}
 
 -- both counts are bytes
 pub record Counted (g : Glyph) : Type 0 where

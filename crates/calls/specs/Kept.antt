@@ -12,19 +12,19 @@ use Rattle.glyph.specs.Glyph.{glyphsOf, blank}
 use Rattle.glyph.specs.Reply.{Reply}
 use Rattle.verdict.specs.declared.Test.{Test}
 use Rattle.verdict.specs.declared.Verdict.{Verdict}
 use Rattle.matching.specs.declared.Lookup.{Lookup}
 use Rattle.matching.specs.declared.Refusal.{Refusal}
-use Rattle.matching.specs.declared.Fit.{Fit}
 use Rattle.matching.specs.declared.InputAnswer.{InputAnswer}
 use Rattle.matching.specs.declared.InputMatch.{InputMatch}
 use Rattle.matching.specs.declared.ContextMatch.{ContextMatch}
 use Rattle.matching.specs.Take.{slots, Way, ahead, behind, Outcome, taken, lost, unlike, takes, reached}
 use Rattle.matching.specs.Matchers.{judge, anywhere, contextMatcherOf, inputBy, inputOn, aheadOn, backOn, backwardGlyphs}
 use Rattle.matching.specs.Answers.{slotted, without, totalOf, inputTold, contextTold, inputReply, contextReply}
-use Rattle.matching.specs.Calls.{inputFit, aheadFit, backFit, inputUnless, contextUnless, inputOf, aheadOf, backOf}
 use Rattle.matching.specs.Demand2.{Loses}
 use Rattle.matching.specs.Demand2Laws.{demand-2, never-turned}
 use Rattle.matching.specs.Promises.{replies, inputSuccess, InputPromise, Leads, ContextPromise, inputJudge, inputRule, contextJudge}
+use Rattle.calls.specs.declared.Fit.{Fit}
+use Rattle.calls.specs.Calls.{inputFit, aheadFit, backFit, inputUnless, contextUnless, inputOf, aheadOf, backOf}
 
 -- ---- input
 

@@ -6,12 +6,12 @@ use borrow.Author.Tests.{le-ltb}
 use lib.ListN.{length}
 use lib.Seq.{length-take-le}
 use Rattle.glyph.specs.Glyph.{glyphsOf}
 use Rattle.matching.specs.Take.{slots}
-use Rattle.matching.specs.Calls.{backOf}
-use Rattle.matching.specs.Accepted.{Good, back-good}
+use Rattle.calls.specs.Calls.{backOf}
+use Rattle.calls.specs.Accepted.{Good, back-good}
 use borrow.Author.Needs.{needs}
-use Rattle.matching.proofs.match_backtrack.Statement.{statement}
-use Rattle.matching.proofs.match_backtrack.Tie as tie
+use Rattle.calls.proofs.match_backtrack.Statement.{statement}
+use Rattle.calls.proofs.match_backtrack.Tie as tie
 
 back-fit-requires : tie.Need-back-fit-requires
 back-fit-requires c κs = search needs

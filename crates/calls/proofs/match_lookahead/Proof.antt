@@ -5,12 +5,12 @@ use native.Mathlib.Omega.{arith}
 use lib.ListN.{length}
 use lib.Seq.{length-take-le}
 use Rattle.glyph.specs.Glyph.{glyphsOf}
 use Rattle.matching.specs.Take.{slots}
-use Rattle.matching.specs.Calls.{aheadOf}
-use Rattle.matching.specs.Accepted.{Good, ahead-good}
+use Rattle.calls.specs.Calls.{aheadOf}
+use Rattle.calls.specs.Accepted.{Good, ahead-good}
 use borrow.Author.Needs.{needs}
-use Rattle.matching.proofs.match_lookahead.Statement.{statement}
-use Rattle.matching.proofs.match_lookahead.Tie as tie
+use Rattle.calls.proofs.match_lookahead.Statement.{statement}
+use Rattle.calls.proofs.match_lookahead.Tie as tie
 
 ahead-fit-requires : tie.Need-ahead-fit-requires
 ahead-fit-requires c κs = search needs

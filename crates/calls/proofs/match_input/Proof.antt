@@ -5,13 +5,13 @@ use native.Mathlib.Omega.{arith}
 use lib.ListN.{length}
 use lib.Seq.{length-take-le}
 use Rattle.glyph.specs.Glyph.{glyphsOf}
 use Rattle.matching.specs.Take.{slots}
 use Rattle.matching.specs.Matchers.{inputOn}
-use Rattle.matching.specs.Calls.{inputOf}
-use Rattle.matching.specs.Accepted.{Good, input-good}
+use Rattle.calls.specs.Calls.{inputOf}
+use Rattle.calls.specs.Accepted.{Good, input-good}
 use borrow.Author.Needs.{needs}
-use Rattle.matching.proofs.match_input.Statement.{statement}
-use Rattle.matching.proofs.match_input.Tie as tie
+use Rattle.calls.proofs.match_input.Statement.{statement}
+use Rattle.calls.proofs.match_input.Tie as tie
 
 input-fit-requires : tie.Need-input-fit-requires
 input-fit-requires c κs = search needs

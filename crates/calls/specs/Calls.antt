@@ -7,15 +7,15 @@ use lib.ListN.{length, getD, take}
 use Rattle.glyph.specs.Glyph.{glyphsOf, illShaped, blank}
 use Rattle.glyph.specs.Sets.{oddSets}
 use Rattle.verdict.specs.declared.Test.{Test}
 use Rattle.matching.specs.declared.Lookup.{Lookup}
 use Rattle.matching.specs.declared.Refusal.the-variants.{Shape, Cursor, Values, Start}
-use Rattle.matching.specs.declared.Fit.{Fit}
 use Rattle.matching.specs.declared.InputAnswer.{InputAnswer}
 use Rattle.matching.specs.declared.InputMatch.{InputMatch}
 use Rattle.matching.specs.declared.ContextMatch.{ContextMatch}
 use Rattle.matching.specs.Take.{slots, ahead, behind}
 use Rattle.matching.specs.Matchers.{inputOn, aheadOn, backOn, backwardGlyphs}
 use Rattle.matching.specs.Answers.{without, inputTold, contextTold}
+use Rattle.calls.specs.declared.Fit.{Fit}
 
 -- 1: a row not whole glyphs or over the limit, d or len past its row, odd mark sets
 unfoldable pub badText : List ℕ → ℕ → List ℕ → ℕ → List ℕ → Bool

@@ -8,15 +8,14 @@ use borrow.Author.Tests.{ltb-false, leb-false}
 use lib.Dec.{eqb, ltb, leb}
 use lib.ListN.{length}
 use Rattle.bits.specs.Laws.{neither-left, neither-right}
-use Rattle.glyph.specs.declared.Glyph.{Glyph}
 use Rattle.glyph.specs.Glyph.{limit, glyphsOf, illShaped}
 use Rattle.glyph.specs.Laws.{well-shaped}
 use Rattle.glyph.specs.Sets.{oddSets}
 use Rattle.matching.specs.declared.Refusal.{Refusal}
 use Rattle.matching.specs.declared.Refusal.the-variants.{Shape, Cursor, Values, Start}
-use Rattle.matching.specs.declared.Fit.{Fit}
 use Rattle.matching.specs.Take.{slots}
-use Rattle.matching.specs.Calls.{badText, inputFit, aheadFit, backFit}
+use Rattle.calls.specs.declared.Fit.{Fit}
+use Rattle.calls.specs.Calls.{badText, inputFit, aheadFit, backFit}
 
 -- the parts that count are in their rows, and the cursor is in its part
 pub record Good (done : List ℕ) (d : ℕ) (coming : List ℕ) (len idx : ℕ) : Type 0 where
@@ -80,7 +79,3 @@ module _ (done : List ℕ) (d : ℕ) (coming : List ℕ) (len idx : ℕ) (sets :
             ltb-false len start (neither-right bad (ltb len start) (e₁ .0)),
             ltb-false slots values (e₃ .0),
           )
-
--- what input matching is handed once a call isn't refused
-abbrev pub InputReady : List Glyph → ℕ → List ℕ → Type 0
-InputReady coming idx values = (idx < length coming) × (length coming ≤ limit) × (length values < slots)

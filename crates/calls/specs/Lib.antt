@@ -1,0 +1,5 @@
+pub mod Calls
+pub mod Accepted
+pub mod Kept
+pub mod Table
+pub mod Total
