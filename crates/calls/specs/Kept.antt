@@ -1,4 +1,4 @@
--- The calls keep demand 2, and are refused exactly as their table says. The reply of an outcome tells the outcome.
+-- The calls keep demand 2. The reply of an outcome tells the outcome.
 use Prim.Native.Nat.{ℕ, suc, _+_, _-_}
 use mathlib.Core.Path.{_≡_, refl, sym, ap, _∙_}
 use mathlib.Core.List.{List, [], _∷_}
@@ -161,66 +161,3 @@ module _ (done : List ℕ) (d : ℕ) (coming : List ℕ) (len idx : ℕ) (lookup
   back-promise e =
       let row = backwardGlyphs (lookup .settings .table) (take d (glyphsOf done)) (take idx text) in
       rw e (context-keeps behind (length row) values (contextJudge lookup sets test text idx row))
-
--- ---- refused exactly as the call's table says
-
-answer-of : (a b : InputAnswer) → without a ≡ without b → a ≡ b
-answer-of a b e = ap (λ (m : InputMatch). m .answer) e
-
-input-by-fit : (fit : Fit) (text : List Glyph) (idx : ℕ) (o : Outcome) (why : Refusal)
-    → (inputUnless fit (inputTold text idx o) ≡ without (InputAnswer.Refused why)) ↔ (fit ≡ Fit.Refused why)
-input-by-fit (Fit.Refused other) text idx o why = (
-  λ e. let same = answer-of (InputAnswer.Refused other) (InputAnswer.Refused why) e in let z : other ≡ why = cc in ap Fit.Refused z,
-  λ e. let z : other ≡ why = cc in ap (λ (w : Refusal). without (InputAnswer.Refused w)) z,
-)
-input-by-fit Fit.Fits text idx (taken places) why = (
-  λ e. let z : suc (length places) ≡ 0 = ap (λ (m : InputMatch). m .count) e in absurd (omega arith),
-  λ e. let z : _≡_ {A = ℕ} 0 1 = cc in absurd (omega arith),
-)
-input-by-fit Fit.Fits text idx (lost extent) why = (
-  λ e. let same = answer-of (InputAnswer.Lost extent) (InputAnswer.Refused why) e in let z : _≡_ {A = ℕ} 0 1 = cc in absurd (omega arith),
-  λ e. let z : _≡_ {A = ℕ} 0 1 = cc in absurd (omega arith),
-)
-input-by-fit Fit.Fits text idx unlike why = (
-  λ e. let same = answer-of InputAnswer.Ligature (InputAnswer.Refused why) e in let z : _≡_ {A = ℕ} 0 1 = cc in absurd (omega arith),
-  λ e. let z : _≡_ {A = ℕ} 0 1 = cc in absurd (omega arith),
-)
-
-context-by-fit : (fit : Fit) (way : Way) (p : ℕ) (o : Outcome) (why : Refusal)
-    → (contextUnless fit (contextTold way p o) ≡ ContextMatch.Refused why) ↔ (fit ≡ Fit.Refused why)
-context-by-fit (Fit.Refused other) way p o why = (λ e. let z : other ≡ why = cc in ap Fit.Refused z, λ e. let z : other ≡ why = cc in ap ContextMatch.Refused z)
-context-by-fit Fit.Fits way p (taken places) why = (
-  λ e. let z : _≡_ {A = ℕ} 0 1 = cc in absurd (omega arith),
-  λ e. let z : _≡_ {A = ℕ} 0 1 = cc in absurd (omega arith),
-)
-context-by-fit Fit.Fits way p (lost extent) why = (
-  λ e. let z : _≡_ {A = ℕ} 0 1 = cc in absurd (omega arith),
-  λ e. let z : _≡_ {A = ℕ} 0 1 = cc in absurd (omega arith),
-)
-context-by-fit Fit.Fits way p unlike why = (
-  λ e. let z : _≡_ {A = ℕ} 0 1 = cc in absurd (omega arith),
-  λ e. let z : _≡_ {A = ℕ} 0 1 = cc in absurd (omega arith),
-)
-
-module _ (done : List ℕ) (d : ℕ) (coming : List ℕ) (len idx : ℕ) (lookup : Lookup) (sets : List ℕ) (test : Test) (values : List ℕ) (why : Refusal) where
-  pub input-refused : (inputOf done d coming len idx lookup sets test values ≡ without (InputAnswer.Refused why)) ↔ (inputFit done d coming len idx sets (length values) ≡ Fit.Refused why)
-  unfolding inputOf
-  input-refused =
-      let text = take len (glyphsOf coming) in
-      input-by-fit (inputFit done d coming len idx sets (length values)) text idx (inputOn lookup sets test (take d (glyphsOf done)) text idx values) why
-
-  pub ahead-refused : (start : ℕ)
-      → (aheadOf done d coming len idx start lookup sets test values ≡ ContextMatch.Refused why) ↔ (aheadFit done d coming len idx start sets (length values) ≡ Fit.Refused why)
-  unfolding aheadOf
-  ahead-refused start =
-      let text = take len (glyphsOf coming) in
-      context-by-fit (aheadFit done d coming len idx start sets (length values)) (ahead (length text)) start
-      (aheadOn lookup sets test text start (getD text idx blank .syllable) values) why
-
-  pub back-refused : (backOf done d coming len idx lookup sets test values ≡ ContextMatch.Refused why) ↔ (backFit done d coming len idx sets (length values) ≡ Fit.Refused why)
-  unfolding backOf
-  back-refused =
-      let text = take len (glyphsOf coming) in
-      let row = backwardGlyphs (lookup .settings .table) (take d (glyphsOf done)) (take idx text) in
-      context-by-fit (backFit done d coming len idx sets (length values)) behind (length row)
-      (backOn lookup sets test row (getD text idx blank .syllable) values) why

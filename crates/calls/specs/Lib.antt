@@ -1,5 +1,7 @@
 pub mod Calls
+pub mod Lines
 pub mod Accepted
 pub mod Kept
 pub mod Table
+pub mod Demand1
 pub mod Total

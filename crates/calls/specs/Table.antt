@@ -1,5 +1,5 @@
 -- The refusals of the three calls as 01's table has them ("When the desk says no"): each number exactly when its line holds and no line before it does,
--- in the order 1, 2, 3, 6; and let through exactly when none holds. That a call answers with this refusal, and else with none of these: Kept.
+-- in the order 1, 2, 3, 6; and let through exactly when none holds. In the numbers of the calls' replies: Demand1.
 use mathlib.Core.Path.{_≡_, refl, subst}
 use mathlib.Core.Bool.{Bool, true, false, cond, _||_}
 use mathlib.Core.List.{List}
@@ -8,24 +8,15 @@ use Prim.Native.Nat.{ℕ, _%_, _≤_, _<_}
 use native.Mathlib.Omega.{arith}
 use lib.Dec.{eqb, leb, ltb}
 use lib.ListN.{length}
-use Rattle.glyph.specs.Glyph.{limit, Row, glyphsOf, illShaped}
+use Rattle.glyph.specs.Glyph.{glyphsOf, illShaped}
 use Rattle.glyph.specs.Laws.{well-shaped}
 use Rattle.glyph.specs.Sets.{oddSets}
 use Rattle.glyph.specs.Tests.{Tests, tests-by, both, at-or-past, over, none, never, paired}
 use Rattle.matching.specs.declared.Refusal.the-variants.{Shape, Cursor, Values, Start}
 use Rattle.matching.specs.Take.{slots}
 use Rattle.calls.specs.declared.Fit.{Fit}
+use Rattle.calls.specs.Lines.{Shaped}
 use Rattle.calls.specs.Calls.{badText, inputFit, aheadFit, backFit}
-
--- line 1: both rows are whole glyphs, at most the limit, d and len are in their rows, and mark sets are pairs
-pub record Shaped (done : List ℕ) (d : ℕ) (coming : List ℕ) (len : ℕ) (sets : List ℕ) : Type 0 where
-  pub done-whole : Row (length (glyphsOf done)) done
-  pub done-short : length (glyphsOf done) ≤ limit
-  pub d-inside : d ≤ length (glyphsOf done)
-  pub coming-whole : Row (length (glyphsOf coming)) coming
-  pub coming-short : length (glyphsOf coming) ≤ limit
-  pub len-inside : len ≤ length (glyphsOf coming)
-  pub sets-paired : length sets % 2 ≡ 0
 
 module _ (done : List ℕ) (d : ℕ) (coming : List ℕ) (len : ℕ) (sets : List ℕ) where
   shaped : (badText done d coming len sets ≡ false) ↔ Shaped done d coming len sets

@@ -1,4 +1,4 @@
--- A match's total is at most 16,320 (01, "What changes shape"): 64 glyphs at most, and a count is a byte. The original's byte overflows past 255.
+-- A match's total is at most 16,320 (01, "What must change shape"): 64 glyphs at most, and a count is a byte. The original's byte overflows past 255.
 use mathlib.Core.Path.{_≡_, refl, sym, _∙_}
 use mathlib.Core.List.{List, [], _∷_}
 use Prim.Native.Nat.{ℕ, zero, suc, _*_, _/_, _≤_}
