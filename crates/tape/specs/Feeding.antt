@@ -1,14 +1,15 @@
 -- The code's side: the tape a byte at a time with only the first bytes of a line kept, as it is read in pieces. Pieces.antt shows that it is answered as
 -- the whole tape is.
-use Prim.Native.Nat.{ℕ, _+_}
+use Prim.Native.Nat.{ℕ, _+_, _-_}
 use mathlib.Core.Path.{_≡_}
 use mathlib.Core.List.{List, [], _∷_, _++_}
 use mathlib.Core.Bool.{cond}
-use lib.Dec.{eqb, ltb}
-use lib.ListN.{length, drop}
+use lib.Dec.{eqb, leb, ltb}
+use lib.ListN.{length}
 use Rattle.frame.specs.Frame.{mostDigits}
+use Rattle.frame.specs.Put.{Puts}
 use Rattle.tape.specs.Answer.{answerLine}
-use Rattle.tape.specs.Line.{newline}
+use Rattle.tape.specs.Line.{newline, mostAnswer}
 
 -- the bytes of a line that are kept, at most: one more than the longest frame has tells that a line is longer
 abbrev pub mostKept : ℕ
@@ -33,7 +34,15 @@ unfoldable pub answersIn : List ℕ → List ℕ → List ℕ
 answersIn line [] = []
 answersIn line (b ∷ rest) = answerAt line b ++ answersIn (lineAfter line b) rest
 
--- what code that takes a part of a piece leaves: the same line and the same answers come of the rest as came of the whole
-pub record Feeds (piece : List ℕ) (at : ℕ) (kept : List ℕ) (written : List ℕ) (at′ : ℕ) (kept′ : List ℕ) (written′ : List ℕ) : Type 0 where
-  pub line : lineLeft kept′ (drop at′ piece) ≡ lineLeft kept (drop at piece)
-  pub answers : written′ ++ answersIn kept′ (drop at′ piece) ≡ written ++ answersIn kept (drop at piece)
+-- the bytes of a piece that are taken: each, as long as the longest answer has room
+unfoldable pub taken : ℕ → List ℕ → List ℕ → List ℕ
+taken room line [] = []
+taken room line (b ∷ rest) =
+    let onward = taken (room - length (answerAt line b)) (lineAfter line b) rest in
+    cond (leb mostAnswer room) (b ∷ onward) []
+
+-- what code that takes these bytes leaves: how far it came, the line then, and their answers, stored from m on
+pub record Feeds (bytes : List ℕ) (at : ℕ) (kept out : List ℕ) (m at′ : ℕ) (kept′ out′ : List ℕ) (m′ : ℕ) : Type 0 where
+  pub came : at′ ≡ at + length bytes
+  pub line : kept′ ≡ lineLeft kept bytes
+  pub answers : Puts out m (answersIn kept bytes) out′ m′

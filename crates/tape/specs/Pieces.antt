@@ -1,22 +1,23 @@
 -- A tape in pieces is answered as the whole tape is, whatever the pieces, though only the first bytes of a line are kept:
 -- a line that is longer than what is kept is longer than any frame.
-use Prim.Native.Nat.{ℕ, _+_, _≤_, _<_}
+use Prim.Native.Nat.{ℕ, _+_, _-_, _≤_, _<_}
 use mathlib.Core.Path.{_≡_, refl, sym, ap, _∙_}
 use mathlib.Core.List.{List, [], _∷_, _++_, append-assoc}
 use mathlib.Core.Bool.{Bool, true, false, cond}
 use mathlib.Core.Logic.{⊎-elim}
 use native.Mathlib.Omega.{arith}
 use borrow.Author.Tests.{lt-ltb, le-ltb}
-use lib.Dec.{eqb}
-use lib.ListN.{length, take, length-append}
-use lib.Seq.{take-all, take-append-le, length-take-le}
+use lib.Dec.{eqb, leb}
+use lib.ListN.{length, take, drop, length-append}
+use lib.Seq.{take-all, take-append-le, length-take-le, drop-drop}
 use Rattle.tape.specs.Answer.{answerTo, answerLine}
 use Rattle.tape.specs.AnswerLaws.{le-or-lt}
 use Rattle.frame.specs.Frame.{Reading, frameOf}
 use Rattle.frame.specs.FrameLaws.{long-none}
-use Rattle.tape.specs.Line.{newline, ended}
+use Rattle.frame.specs.Put.{take-put}
+use Rattle.tape.specs.Line.{newline, mostAnswer, ended}
 use Rattle.tape.specs.Tape.{lastAnswer, answersFrom, tapeOf}
-use Rattle.tape.specs.Feeding.{mostKept, longer, lineAfter, answerAt, lineLeft, answersIn}
+use Rattle.tape.specs.Feeding.{mostKept, longer, lineAfter, answerAt, lineLeft, answersIn, taken, Feeds}
 
 -- ---- one piece after another
 
@@ -31,6 +32,43 @@ answers-pieces l [] q = refl
 answers-pieces l (b ∷ p) q =
     ap (λ (r : List ℕ). answerAt l b ++ r) (answers-pieces (lineAfter l b) p q)
     ∙ sym (append-assoc (answerAt l b) (answersIn (lineAfter l b) p) (answersIn (lineLeft (lineAfter l b) p) q))
+
+-- ---- a piece of which a part is taken: the part and the rest give what the piece does
+
+taken-by : (b : ℕ) (p onward : List ℕ) → onward ++ drop (length onward) p ≡ p
+    → (t : Bool) → cond t (b ∷ onward) [] ++ drop (length (cond t (b ∷ onward) [])) (b ∷ p) ≡ b ∷ p
+taken-by b p onward e true = ap (λ (r : List ℕ). b ∷ r) e
+taken-by b p onward e false = refl
+
+taken-part : (room : ℕ) (l p : List ℕ) → taken room l p ++ drop (length (taken room l p)) p ≡ p
+unfolding taken
+taken-part room l [] = refl
+taken-part room l (b ∷ p) =
+    taken-by b p (taken (room - length (answerAt l b)) (lineAfter l b) p) (taken-part (room - length (answerAt l b)) (lineAfter l b) p) (leb mostAnswer room)
+
+module _ (piece : List ℕ) (at : ℕ) (kept out : List ℕ) (m room at′ : ℕ) (kept′ out′ : List ℕ) (m′ : ℕ)
+    (f : Feeds (taken room kept (drop at piece)) at kept out m at′ kept′ out′ m′) where
+  rest : taken room kept (drop at piece) ++ drop at′ piece ≡ drop at piece
+  rest =
+      ap (λ (n : ℕ). taken room kept (drop at piece) ++ drop n piece) (f .came)
+      ∙ ap (λ (r : List ℕ). taken room kept (drop at piece) ++ r) (sym (drop-drop (length (taken room kept (drop at piece))) at piece))
+      ∙ taken-part room kept (drop at piece)
+
+  pub line-rest : lineLeft kept′ (drop at′ piece) ≡ lineLeft kept (drop at piece)
+  line-rest =
+      ap (λ (l : List ℕ). lineLeft l (drop at′ piece)) (f .line)
+      ∙ sym (line-pieces kept (taken room kept (drop at piece)) (drop at′ piece))
+      ∙ ap (lineLeft kept) rest
+
+  pub answers-rest : m′ ≤ length out → take m′ out′ ++ answersIn kept′ (drop at′ piece) ≡ take m out ++ answersIn kept (drop at piece)
+  answers-rest h =
+      let bytes = taken room kept (drop at piece) in
+      ap (λ (n : ℕ). take n out′ ++ answersIn kept′ (drop at′ piece)) (f .answers .ends)
+      ∙ ap (λ (o : List ℕ). take (m + length (answersIn kept bytes)) o ++ answersIn kept′ (drop at′ piece)) (f .answers .stored)
+      ∙ ap (λ (o : List ℕ). o ++ answersIn kept′ (drop at′ piece)) (take-put out m (answersIn kept bytes) (omega (arith, f .answers .ends)))
+      ∙ ap (λ (l : List ℕ). (take m out ++ answersIn kept bytes) ++ answersIn l (drop at′ piece)) (f .line)
+      ∙ append-assoc (take m out) (answersIn kept bytes) (answersIn (lineLeft kept bytes) (drop at′ piece))
+      ∙ ap (λ (r : List ℕ). take m out ++ r) (sym (answers-pieces kept bytes (drop at′ piece)) ∙ ap (answersIn kept) rest)
 
 -- ---- what is kept of a line tells its answer
 

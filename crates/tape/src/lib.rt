@@ -7,9 +7,9 @@ use matching::Lookup;
 use matching::Refusal;
 use verdict::Test;
 ghost use mathlib.Core.Path.{_≡_};
-ghost use mathlib.Core.List.{[], _∷_, _++_};
-ghost use Prim.Native.Nat.{_+_, _*_, _≤_, _<_, min};
-ghost use lib.ListN.{length, take};
+ghost use mathlib.Core.List.{[], _∷_};
+ghost use Prim.Native.Nat.{_+_, _-_, _*_, _≤_, _<_, min};
+ghost use lib.ListN.{length, take, drop};
 ghost use Rattle.matching.specs.Answers.{refusalNumber, inputReply};
 ghost use Rattle.matching.specs.Take.{slots};
 ghost use Rattle.frame.specs.Frame.{mostRecords};
@@ -19,7 +19,7 @@ ghost use Rattle.frame.specs.Put.{put, Puts};
 ghost use Rattle.tape.specs.Answer.{answerLine};
 ghost use Rattle.tape.specs.Asking.{asked};
 ghost use Rattle.tape.specs.Line.{mostAnswer, newline, halves, matchedBytes, answerBytes, ended};
-ghost use Rattle.tape.specs.Feeding.{mostKept, lineAfter, answerAt, Feeds};
+ghost use Rattle.tape.specs.Feeding.{mostKept, lineAfter, answerAt, taken, Feeds};
 
 // The longest answer: 00, end, total and count, a position for each record of a row, and 0A.
 pub const MOST_ANSWER: usize = 13 + 4 * frame::MOST_RECORDS;
@@ -245,7 +245,7 @@ pub fn answer_line(line: &[u8], out: &mut [u8], at: usize) -> usize
 fn take_byte(kept: &mut [u8], n: usize, out: &mut [u8], m: usize, b: u8) -> Taken
     requires { ⌜ (n ≤ mostKept) × (length (now kept) ≡ mostKept) × (m + mostAnswer ≤ length (now out)) ⌝ }
     ensures { λ r. ⌜ take (r .kept) (now (kept .exit)) ≡ lineAfter (take n (now (kept .entry))) b ⌝ }
-    ensures { λ r. ⌜ take (r .written) (now (out .exit)) ≡ take m (now (out .entry)) ++ answerAt (take n (now (kept .entry))) b ⌝ }
+    ensures { λ r. ⌜ Puts (now (out .entry)) m (answerAt (take n (now (kept .entry))) b) (now (out .exit)) (r .written) ⌝ }
     ensures { λ r. ⌜ (r .kept ≤ mostKept) × (r .written ≤ length (now (out .entry))) ⌝ }
 {
     if b == NEWLINE {
@@ -271,7 +271,7 @@ fn take_byte(kept: &mut [u8], n: usize, out: &mut [u8], m: usize, b: u8) -> Take
 // A piece of the tape from a place on, until it ends or `out` has no room for one more answer.
 pub fn feed(piece: &[u8], from: usize, kept: &mut [u8], n: usize, out: &mut [u8], m: usize) -> Fed
     requires { ⌜ (from < length (now piece)) × (n ≤ mostKept) × (length (now kept) ≡ mostKept) × (m + mostAnswer ≤ length (now out)) ⌝ }
-    ensures { λ r. ⌜ Feeds (now (piece .entry)) from (take n (now (kept .entry))) (take m (now (out .entry))) (r .at) (take (r .kept) (now (kept .exit))) (take (r .written) (now (out .exit))) ⌝ }
+    ensures { λ r. ⌜ Feeds (taken (length (now (out .entry)) - m) (take n (now (kept .entry))) (drop from (now (piece .entry)))) from (take n (now (kept .entry))) (now (out .entry)) m (r .at) (take (r .kept) (now (kept .exit))) (now (out .exit)) (r .written) ⌝ }
     ensures { λ r. ⌜ (from < r .at) × (r .at ≤ length (now (piece .entry))) × (r .kept ≤ mostKept) × (r .written ≤ length (now (out .entry))) ⌝ }
     ensures { λ r. ⌜ (r .at < length (now (piece .entry)) → length (now (out .entry)) < r .written + mostAnswer) ⌝ }
 {

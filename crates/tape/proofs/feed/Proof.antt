@@ -1,12 +1,12 @@
--- What is written and what is still to come stay together what they were. Assumes nothing.
+-- What comes of the bytes that are still to be taken comes of the whole. Assumes nothing.
 use Prim.Native.Nat.{_+_, _-_, _≤_, _<_}
 use mathlib.Core.Path.{_≡_, refl, _∙_}
 use mathlib.Core.Logic.{_⊎_, inl, inr, ⊎-elim}
 use native.Mathlib.Omega.{arith}
 use lib.ListN.{length, take}
 use Rattle.tape.specs.Line.{mostAnswer}
-use Rattle.tape.specs.Feeding.{mostKept, Feeds}
-use Rattle.tape.specs.TapeLaws.{feeds-on}
+use Rattle.tape.specs.Feeding.{mostKept}
+use Rattle.tape.specs.TapeLaws.{taken-full, taken-all, Leads, leads-on, leads-end}
 use borrow.Author.Needs.{needs}
 use Rattle.tape.proofs.feed.Statement.{statement}
 use Rattle.tape.proofs.feed.Tie as tie
@@ -18,7 +18,7 @@ Inv-loop piece from kept₀ n out₀ m at₀ held₀ written₀ kept out at held
     × (length kept ≡ mostKept)
     × (length out ≡ length out₀)
     × (written ≤ length out)
-    × Feeds piece from (take n kept₀) (take m out₀) at (take held kept) (take written out)
+    × Leads piece from (take n kept₀) out₀ m at (take held kept) out written
     × ((from < at) ⊎ (written + mostAnswer ≤ length out))
     × (from ≤ at)
 
@@ -28,7 +28,7 @@ abbrev μ-loop : tie.MeasureT-loop
 loop-holds : tie.Need-loop-holds Inv-loop μ-loop
 loop-holds c =
     let r = c .before .before .before .pre in
-    (omega (arith, r .0), r .1, r .2, refl, omega (arith, r .3), record { line = refl; answers = refl }, inr (r .3), omega arith)
+    (omega (arith, r .0), r .1, r .2, refl, omega (arith, r .3), λ _ _ _ _ f. f, inr (r .3), omega arith)
 
 sub-if1 : tie.Need-sub-if1 Inv-loop μ-loop
 sub-if1 c = search needs
@@ -41,8 +41,10 @@ same-length-2 c = search needs
 
 returns : tie.Need-returns Inv-loop μ-loop
 returns c =
-    let l = c .before .before .loop in (
-      l .inv .5,
+    let l = c .before .before .loop in
+    let a = c .before .before .before .before .before .before .args in (
+      leads-end (a .piece .now) (a .from) (take (a .n) (a .kept .now)) (a .out .now) (a .m) (l .at) (take (l .held) (l .kept)) (l .out) (l .written) (l .inv .5)
+          (taken-full (a .piece .now) (l .at) (length (l .out) - l .written) (take (l .held) (l .kept)) (c .before .loop-test .taken) (c .if1 .taken)),
       (
         (⊎-elim (λ h. h) (λ h. absurd (omega (arith, h, c .if1 .taken))) (l .inv .6), l .inv .0, l .inv .1, omega (arith, l .inv .3, l .inv .4)),
         λ h. omega (arith, c .if1 .taken, l .inv .3, l .inv .4),
@@ -71,10 +73,12 @@ loop-again c =
       t .kept .0 ∙ l .inv .2,
       t .kept .1 .1 .0 ∙ l .inv .3,
       omega (arith, t .ensures .1 .1 .1, t .kept .1 .1 .0),
-      feeds-on (a .piece .now) (a .from) (take (a .n) (a .kept .now)) (take (a .m) (a .out .now)) (l .at)
-          (take (l .held) (l .kept)) (take (l .written) (l .out))
-          (take (t .result .kept) (t .last .0)) (take (t .result .written) (t .last .1 .1 .0))
-          (c .before .before .before .before .before .before .before .before .before .loop-test .taken) (l .inv .5) (t .ensures .0) (t .ensures .1 .0),
+      leads-on (a .piece .now) (a .from) (take (a .n) (a .kept .now)) (a .out .now) (a .m) (l .at)
+          (take (l .held) (l .kept)) (l .out) (l .written)
+          (take (t .result .kept) (t .last .0)) (t .last .1 .1 .0) (t .result .written)
+          (c .before .before .before .before .before .before .before .before .before .loop-test .taken)
+          (c .before .before .before .before .before .before .before .before .if1 .left)
+          (t .ensures .0) (t .ensures .1 .0) (t .kept .1 .1 .0) (t .ensures .1 .1 .1) (l .inv .5),
       inl (omega (arith, l .inv .7)),
       omega (arith, l .inv .7),
     )
@@ -88,8 +92,10 @@ same-length-4 c = search needs
 returns-2 : tie.Need-returns-2 Inv-loop μ-loop
 returns-2 c =
     let l = c .before .loop in
+    let a = c .before .before .before .before .before .args in
     let r = c .before .before .before .before .before .pre in (
-      l .inv .5,
+      leads-end (a .piece .now) (a .from) (take (a .n) (a .kept .now)) (a .out .now) (a .m) (l .at) (take (l .held) (l .kept)) (l .out) (l .written) (l .inv .5)
+          (taken-all (a .piece .now) (l .at) (length (l .out) - l .written) (take (l .held) (l .kept)) (c .loop-test .left)),
       (
         (omega (arith, r .0), l .inv .0, l .inv .1, omega (arith, l .inv .3, l .inv .4)),
         λ h. absurd (omega (arith, h, c .loop-test .left)),

@@ -1,14 +1,13 @@
 -- The byte ends the line, is kept after it, or only makes a long line longer. Assumes nothing.
-use Prim.Native.Nat.{ℕ, _+_, _-_}
-use mathlib.Core.Path.{_≡_, sym, ap, _∙_}
-use mathlib.Core.List.{List, _++_, append-nil}
+use Prim.Native.Nat.{_-_}
+use mathlib.Core.Path.{_≡_, sym, _∙_}
 use native.Mathlib.Omega.{arith}
 use native.Mathlib.Numerals.{add-one}
 use lib.ListN.{length, take}
 use lib.Seq.{take-suc-set, length-take-le}
 use Rattle.tape.specs.Answer.{answerLine}
 use Rattle.tape.specs.Line.{newline}
-use Rattle.frame.specs.Put.{Puts, take-put}
+use Rattle.frame.specs.Put.{Puts}
 use Rattle.tape.specs.TapeLaws.{after-newline, answer-newline, after-kept, after-full, answer-other}
 use borrow.Author.Needs.{needs}
 use Rattle.tape.proofs.take_byte.Statement.{statement}
@@ -39,16 +38,8 @@ returns c =
     let p = c .before .before .answer-line .ensures in
     let z : a .n - 0 ≡ a .n = omega arith in
     let q : Puts (a .out .now) (a .m) (answerLine held) (c .before .before .answer-line .last .1 .0) (c .before .before .answer-line .result) = rw z at (p .0) in
-    let newline-told : a .b ≡ newline = c .before .before .before .before .before .before .if1 .taken in (
-      sym (after-newline held (a .b) newline-told),
-      (
-        ap (λ (k : ℕ). take k (c .before .before .answer-line .last .1 .0)) (q .ends)
-            ∙ ap (take (a .m + length (answerLine held))) (q .stored)
-            ∙ take-put (a .out .now) (a .m) (answerLine held) (omega (arith, p .1, q .ends))
-            ∙ ap (λ (s : List ℕ). take (a .m) (a .out .now) ++ s) (sym (answer-newline held (a .b) newline-told)),
-        (omega arith, omega (arith, p .1)),
-      ),
-    )
+    let newline-told : a .b ≡ newline = c .before .before .before .before .before .before .if1 .taken in
+    (sym (after-newline held (a .b) newline-told), (rw (answer-newline held (a .b) newline-told) q, (omega arith, omega (arith, p .1))))
 
 slice-write-kept : tie.Need-slice-write-kept
 slice-write-kept c = search needs
@@ -66,10 +57,7 @@ returns-2 c =
     let l : length held ≡ a .n = length-take-le (a .n) (a .kept .now) (omega arith) in
     let other : a .b ≡ newline → ⊥ = c .before .if1 .left in (
       rw (add-one (a .n)) (take-suc-set (a .kept .now) (a .n) (a .b) (omega arith)) ∙ sym (after-kept held (a .b) other (omega arith)),
-      (
-        sym (append-nil (take (a .m) (a .out .now))) ∙ ap (λ (s : List ℕ). take (a .m) (a .out .now) ++ s) (sym (answer-other held (a .b) other)),
-        (omega arith, omega arith),
-      ),
+      (answer-other held (a .b) other (a .out .now) (a .m), (omega arith, omega arith)),
     )
 
 returns-3 : tie.Need-returns-3
@@ -79,10 +67,7 @@ returns-3 c =
     let l : length held ≡ a .n = length-take-le (a .n) (a .kept .now) (omega arith) in
     let other : a .b ≡ newline → ⊥ = c .before .if1 .left in (
       sym (after-full held (a .b) other (omega arith)),
-      (
-        sym (append-nil (take (a .m) (a .out .now))) ∙ ap (λ (s : List ℕ). take (a .m) (a .out .now) ++ s) (sym (answer-other held (a .b) other)),
-        (omega arith, omega arith),
-      ),
+      (answer-other held (a .b) other (a .out .now) (a .m), (omega arith, omega arith)),
     )
 
 pub take-byte-spec : {M : Type 1} → statement M
