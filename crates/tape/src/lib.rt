@@ -176,13 +176,6 @@ fn put_answer(out: &mut [u8], at: usize, m: InputMatch) -> usize
     }
 }
 
-// An answer from the front of the slice, and how long it is.
-pub fn encode(m: InputMatch, out: &mut [u8; MOST_ANSWER]) -> usize
-    ensures { λ r. ⌜ Puts (now (out .entry)) 0 (ended (answerBytes (inputReply m))) (now (out .exit)) r ⌝ }
-{
-    put_answer(out, 0, m)
-}
-
 // ---- the answer to a line
 
 // What input matching says of a frame, whose lists stand at the front of the slices. There are no mark sets.
