@@ -2,9 +2,10 @@
 -- number spent.
 use mathlib.Core.Bool.{false}
 use mathlib.Core.List.{List, [], _∷_, _++_, map}
-use Prim.Native.Nat.{ℕ, _+_}
+use Prim.Native.Nat.{ℕ, _+_, _-_, _*_}
 use lib.ListN.{length, replicate}
 use Rattle.glyph.specs.declared.Glyph.{Glyph}
+use Rattle.glyph.specs.Glyph.{words, limit}
 use Rattle.matching.specs.declared.InputAnswer.{InputAnswer}
 use Rattle.matching.specs.declared.InputMatch.{InputMatch}
 use Rattle.matching.specs.Answers.{slotted}
@@ -15,14 +16,17 @@ use Rattle.cards.specs.Card.{Card}
 use Rattle.cards.specs.Signs.{letter}
 
 abbrev empty : List ℕ
-empty = replicate 4096 0
+empty = replicate (words * limit) 0
 
--- three glyphs that end the row
+-- where three glyphs that end the row begin: 1,021 in 01
+abbrev cursor : ℕ
+cursor = limit - 3
+
 abbrev three : List ℕ
-three = replicate 4084 0 ++ (letter 1 ++ letter 2 ++ letter 3)
+three = replicate (words * cursor) 0 ++ (letter 1 ++ letter 2 ++ letter 3)
 
 abbrev matched : InputMatch
-matched = record { answer = InputAnswer.Matched 1024 3; count = 3; positions = slotted (1021 ∷ 1022 ∷ 1023 ∷ []) }
+matched = record { answer = InputAnswer.Matched limit 3; count = 3; positions = slotted (cursor ∷ (cursor + 1) ∷ (cursor + 2) ∷ []) }
 
 -- one lookup of kind 2, which turns 2 into these ids
 abbrev turning : List ℕ → List ℕ
@@ -36,8 +40,8 @@ shows Checked.Accepted v =
 -- record (1, 0) over ids 1, 2, 3, matched whole
 abbrev ran : List ℕ → ℕ → ℕ → List (List ℕ)
 ran ids allowance depth =
-    shows (checkedAll empty three (record { d = 0; idx = 1021 }) [] (turning ids) (1 ∷ 0 ∷ []) matched allowance depth)
-    (runSays empty three (record { d = 0; idx = 1021 }) [] (turning ids) (1 ∷ 0 ∷ []) matched (record { zwnj = false; zwj = false; syllables = false; mask = 1 }) allowance depth)
+    shows (checkedAll empty three (record { d = 0; idx = cursor }) [] (turning ids) (1 ∷ 0 ∷ []) matched allowance depth)
+    (runSays empty three (record { d = 0; idx = cursor }) [] (turning ids) (1 ∷ 0 ∷ []) matched (record { zwnj = false; zwj = false; syllables = false; mask = 1 }) allowance depth)
 
 abbrev pub k11 : Card
 k11 = record { given = ran (2 ∷ 2 ∷ []) 1 1; wanted = (0 ∷ []) ∷ (1 ∷ 2 ∷ 2 ∷ 3 ∷ []) ∷ (0 ∷ 1 ∷ 2 ∷ 3 ∷ []) ∷ (4 ∷ 1 ∷ []) ∷ [] }

@@ -78,15 +78,6 @@ pub rise-start : (from end : ℕ) (L : List ℕ) → risesTo from end L ≡ rise
 rise-start from end [] = refl
 rise-start from end (p ∷ L) = refl
 
--- the code's row limit is the definition's
-pub limit-is : {n : ℕ} → 1024 < n → limit < n
-unfolding limit
-limit-is h = h
-
-pub limit-at : {n : ℕ} → n ≤ 1024 → n ≤ limit
-unfolding limit
-limit-at h = h
-
 -- ---- whether places can be a level's
 
 module _ (idx end count : ℕ) (places : List ℕ) where

@@ -14,6 +14,9 @@ use runs::Given;
 use stored::part;
 use stored::word;
 
+// The words of a run's row.
+const ROW: usize = glyph::WORDS * glyph::LIMIT;
+
 struct Tally {
     finished: u64,
     short: u64,
@@ -166,8 +169,8 @@ fn lists_from(words: &[u32], k: usize) -> Lists {
     }
 }
 
-fn row_room() -> [u32; 4096] {
-    [0; 4096]
+fn row_room() -> [u32; ROW] {
+    [0; ROW]
 }
 
 // Room for the 16-bit words of a list.
@@ -199,11 +202,11 @@ fn asked(
     let mut done = row_room();
     put(&mut done, 0, before);
     let mut coming = row_room();
-    put(&mut coming, less(4096, ahead.len()), ahead);
+    put(&mut coming, less(ROW, ahead.len()), ahead);
     let answer = nested::run(
         &mut done,
         &mut coming,
-        before.len() / 4,
+        before.len() / glyph::WORDS,
         size(words, after(at, 7)),
         sets,
         book,
@@ -277,7 +280,7 @@ fn told(words: &[u32], a: RunAnswer, done: &[u32], coming: &[u32], k: usize) -> 
 
 fn rows_are(words: &[u32], done: &[u32], coming: &[u32], before: Span, ahead: Span) -> bool {
     let a = listed(words, ahead);
-    holds(done, 0, listed(words, before)) & holds(coming, less(4096, a.len()), a)
+    holds(done, 0, listed(words, before)) & holds(coming, less(ROW, a.len()), a)
 }
 
 // The row has these words from a place on, and 0 everywhere else.

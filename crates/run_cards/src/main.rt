@@ -33,7 +33,7 @@ fn on(row: &[u32], values: &[u32]) -> InputMatch {
         &[],
         0,
         row,
-        row.len() / 4,
+        row.len() / glyph::WORDS,
         0,
         lookup,
         &[],
