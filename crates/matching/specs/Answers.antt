@@ -43,17 +43,6 @@ inputTold gs idx (taken qs) = matchedAt gs idx qs
 inputTold gs idx (lost extent) = without (InputAnswer.Lost extent)
 inputTold gs idx unlike = without InputAnswer.Ligature
 
--- how many positions an answer has: the cursor and one for each value
-abbrev pub countOf : InputAnswer → ℕ → ℕ
-countOf (InputAnswer.Matched end total) n = n + 1
-countOf (InputAnswer.Refused why) n = 0
-countOf (InputAnswer.Lost extent) n = 0
-countOf InputAnswer.Ligature n = 0
-
--- an answer to n values, beside the slots
-abbrev pub madeOf : InputAnswer → ℕ → List ℕ → InputMatch
-madeOf answer n positions = record { answer = answer; count = countOf answer n; positions = positions }
-
 -- from p on; a context matcher has no rule on places that could turn one down
 abbrev pub contextTold : Way → ℕ → Outcome → ContextMatch
 contextTold way p (taken qs) = ContextMatch.Matched (reached way p qs)
@@ -89,7 +78,7 @@ contextReply (ContextMatch.Matched place) = record { number = 0; values = place 
 contextReply (ContextMatch.Refused why) = numberOnly (refusalNumber why)
 contextReply (ContextMatch.Lost extent) = extentOf extent
 
--- ---- answers by their cases, for whoever takes one apart
+-- ---- the code's side: answers by their cases, and how they are put together
 
 abbrev pub isMatched : InputAnswer → Bool
 isMatched (InputAnswer.Matched end total) = true
@@ -108,3 +97,14 @@ abbrev pub isFound : ContextMatch → Bool
 isFound (ContextMatch.Matched place) = true
 isFound (ContextMatch.Refused why) = false
 isFound (ContextMatch.Lost extent) = false
+
+-- how many positions an answer has: the cursor and one for each value
+abbrev pub countOf : InputAnswer → ℕ → ℕ
+countOf (InputAnswer.Matched end total) n = n + 1
+countOf (InputAnswer.Refused why) n = 0
+countOf (InputAnswer.Lost extent) n = 0
+countOf InputAnswer.Ligature n = 0
+
+-- an answer to n values, beside the slots
+abbrev pub madeOf : InputAnswer → ℕ → List ℕ → InputMatch
+madeOf answer n positions = record { answer = answer; count = countOf answer n; positions = positions }

@@ -54,10 +54,6 @@ unfoldable pub inputOn : Lookup → List ℕ → Test → List Glyph → List Gl
 inputOn lookup sets test done coming idx values =
     inputBy (inputMatcherOf lookup) sets test (searchedGlyphs (lookup .settings .table) done) coming idx values
 
--- what input matching is handed once a call isn't refused
-abbrev pub InputReady : List Glyph → ℕ → List ℕ → Type 0
-InputReady coming idx values = (idx < length coming) × (length coming ≤ limit) × (length values < slots)
-
 -- from a start, the nearest value first; the starting syllable is handed in
 unfoldable pub aheadOn : Lookup → List ℕ → Test → List Glyph → ℕ → ℕ → List ℕ → Outcome
 aheadOn lookup sets test coming start syllable values =
@@ -70,14 +66,19 @@ backOn lookup sets test row syllable values =
 
 -- ---- the backward row: `done` for GSUB and, for GPOS, what of `coming` is before the cursor
 
--- the first k glyphs; none where there are fewer
-abbrev pub firstOrNone : ℕ → List Glyph → List Glyph
-firstOrNone k gs = cond (ltb (length gs) k) [] (take k gs)
-
 -- what comes before the text, or before the cursor in it
 abbrev pub backwardGlyphs : Table → List Glyph → List Glyph → List Glyph
 backwardGlyphs Gsub done before = done
 backwardGlyphs Gpos done before = before
+
+-- ---- the code's side: what input matching is handed once a call isn't refused; the backward row of any d and idx
+
+abbrev pub InputReady : List Glyph → ℕ → List ℕ → Type 0
+InputReady coming idx values = (idx < length coming) × (length coming ≤ limit) × (length values < slots)
+
+-- the first k glyphs; none where there are fewer
+abbrev pub firstOrNone : ℕ → List Glyph → List Glyph
+firstOrNone k gs = cond (ltb (length gs) k) [] (take k gs)
 
 abbrev pub backwardRow : Table → List Glyph → ℕ → List Glyph → ℕ → List Glyph
 backwardRow table done d coming idx = backwardGlyphs table (firstOrNone d done) (firstOrNone idx coming)

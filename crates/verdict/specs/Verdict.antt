@@ -106,10 +106,12 @@ verdictOf MaySkip.Maybe MayMatch.Maybe = Skip
 unfoldable pub verdict : Matcher → Sign → ℕ → List ℕ → Glyph → Verdict
 verdict m sign syllable sets g = verdictOf (skipOf m sets g) (matchOf m sign syllable g)
 
--- the verdict on a glyph that isn't skip Yes
-unfoldable pub restOf : Matcher → Sign → ℕ → Glyph → Verdict
-restOf m sign syllable g = verdictOf (cond (ignorable m g) MaySkip.Maybe MaySkip.No) (matchOf m sign syllable g)
-
 -- the judge of the places of a list of glyphs
 abbrev pub judgeAt : Matcher → Sign → ℕ → List ℕ → List Glyph → ℕ → Verdict
 judgeAt m sign syllable sets gs i = verdict m sign syllable sets (getD gs i blank)
+
+-- ---- the code's side
+
+-- the verdict on a glyph that isn't skip Yes
+unfoldable pub restOf : Matcher → Sign → ℕ → Glyph → Verdict
+restOf m sign syllable g = verdictOf (cond (ignorable m g) MaySkip.Maybe MaySkip.No) (matchOf m sign syllable g)
