@@ -42,7 +42,7 @@ fn tell_base(line: &mut [u8; ROOM], searched: &[u32], id: u8, m: Matcher) {
         Base::At(j) => {
             let sets = [0u16; 0];
             let g = glyph::read(searched, j);
-            let s = verdict::may_skip(m, &sets, g);
+            let s = skipping::may_skip(m, &sets, g);
             let why = explaining::why_skip(m, &sets, g);
             rows::base(line, j, g, s, why, m.props);
         }

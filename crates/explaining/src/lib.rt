@@ -127,10 +127,10 @@ fn why_no(m: Matcher, flags: u8) -> SkipReason
 pub fn why_skip(m: Matcher, sets: &[u16], g: Glyph) -> SkipReason
     ensures { λ r. ⌜ r ≡ skipReason m (now (sets .entry)) g ⌝ }
 {
-    if verdict::is_skip_yes(m, sets, g) {
+    if skipping::is_skip_yes(m, sets, g) {
         return why_yes(m.props, g.props as u32);
     }
-    if verdict::is_ignorable(m, g) {
+    if skipping::is_ignorable(m, g) {
         return SkipReason::DefaultIgnorable;
     }
     why_no(m, g.flags)
@@ -179,11 +179,11 @@ pub fn see(m: Matcher, sign: Sign, syllable: u8, sets: &[u16], g: Glyph) -> Seen
     ensures { λ r. ⌜ r ≡ seenOf m sign syllable (now (sets .entry)) g ⌝ }
 {
     Seen {
-        skip: verdict::may_skip(m, sets, g),
+        skip: skipping::may_skip(m, sets, g),
         why: why_skip(m, sets, g),
-        may: verdict::may_match(m, sign, syllable, g),
+        may: judging::may_match(m, sign, syllable, g),
         how: why_match(m, sign, syllable, g),
-        verdict: verdict::judge(m, sign, syllable, sets, g),
+        verdict: judging::judge(m, sign, syllable, sets, g),
     }
 }
 

@@ -142,9 +142,9 @@ pub fn take_input(
         let q = next;
         next += 1;
         let this = glyph::read(text, q);
-        if !verdict::is_skip_yes(m, sets, this) {
+        if !skipping::is_skip_yes(m, sets, this) {
             let value = values[i];
-            match verdict::on_rest(m, Sign { test, value }, first.syllable, this) {
+            match judging::on_rest(m, Sign { test, value }, first.syllable, this) {
                 Verdict::Match => {
                     base = ligature::look_for_base(base, first, this, searched, m, sets);
                     if !ligature::may_join(first, this, base) {
@@ -227,9 +227,9 @@ pub fn backtrack(
         }
         place -= 1;
         let g = glyph::read(row, place);
-        if !verdict::is_skip_yes(m, sets, g) {
+        if !skipping::is_skip_yes(m, sets, g) {
             let value = values[i];
-            match verdict::on_rest(m, Sign { test, value }, syllable, g) {
+            match judging::on_rest(m, Sign { test, value }, syllable, g) {
                 Verdict::Match => i += 1,
                 Verdict::NotMatch => return ContextMatch::Lost(walk::back_extent(place)),
                 Verdict::Skip => {}

@@ -34,7 +34,7 @@ pub fn ask_skip(row: &[u32], place: usize, m: Matcher, sets: &[u16]) -> SkipAnsw
     if is_refused(row, place, sets) {
         return SkipAnswer::Refused;
     }
-    SkipAnswer::Said(verdict::may_skip(m, sets, glyph::read(row, place)))
+    SkipAnswer::Said(skipping::may_skip(m, sets, glyph::read(row, place)))
 }
 
 // May the glyph at a place of a row match?
@@ -44,7 +44,7 @@ pub fn ask_match(row: &[u32], place: usize, m: Matcher, sign: Sign, syllable: u8
     if is_bad_place(row, place) {
         return MatchAnswer::Refused;
     }
-    MatchAnswer::Said(verdict::may_match(m, sign, syllable, glyph::read(row, place)))
+    MatchAnswer::Said(judging::may_match(m, sign, syllable, glyph::read(row, place)))
 }
 
 // What does a walk make of the glyph at a place of a row?
@@ -61,7 +61,7 @@ pub fn ask_verdict(
     if is_refused(row, place, sets) {
         return VerdictAnswer::Refused;
     }
-    VerdictAnswer::Said(verdict::judge(m, sign, syllable, sets, glyph::read(row, place)))
+    VerdictAnswer::Said(judging::judge(m, sign, syllable, sets, glyph::read(row, place)))
 }
 
 // A question about no glyph, or by mark sets that aren't pairs: refusal 1.

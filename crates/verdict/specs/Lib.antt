@@ -1,4 +1,3 @@
 pub mod Matcher
 pub mod Verdict
-pub mod Care
 pub mod Laws

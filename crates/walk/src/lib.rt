@@ -82,8 +82,8 @@ pub fn forward_from(
         let p = ahead;
         ahead += 1;
         let g = glyph::read(row, p);
-        if !verdict::is_skip_yes(m, sets, g) {
-            match verdict::on_rest(m, sign, syllable, g) {
+        if !skipping::is_skip_yes(m, sets, g) {
+            match judging::on_rest(m, sign, syllable, g) {
                 Verdict::Match => return Walked::Found(p),
                 Verdict::NotMatch => return Walked::Stopped(ahead),
                 Verdict::Skip => {}
@@ -107,7 +107,7 @@ fn passed_back(row: &[u32], place: usize, m: Matcher, sets: &[u16]) -> usize
 {
     let mut k = 0;
     while k < place {
-        if !verdict::is_skip_yes(m, sets, glyph::read(row, place - 1 - k)) {
+        if !skipping::is_skip_yes(m, sets, glyph::read(row, place - 1 - k)) {
             return k;
         }
         k += 1;
@@ -134,7 +134,7 @@ pub fn backward_from(
             return Walked::RanOut(0);
         }
         p -= 1;
-        match verdict::on_rest(m, sign, syllable, glyph::read(row, p)) {
+        match judging::on_rest(m, sign, syllable, glyph::read(row, p)) {
             Verdict::Match => return Walked::Found(p),
             Verdict::NotMatch => return Walked::Stopped(back_extent(p)),
             Verdict::Skip => {}

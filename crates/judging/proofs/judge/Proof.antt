@@ -1,9 +1,9 @@
 -- Skip Yes decides alone; else the rest does (Laws). Assumes nothing.
 use mathlib.Core.Path.{sym, _∙_}
 use Rattle.verdict.specs.Laws.{verdict-yes, verdict-rest}
 use borrow.Author.Needs.{needs}
-use Rattle.verdict.proofs.judge.Statement.{statement}
-use Rattle.verdict.proofs.judge.Tie as tie
+use Rattle.judging.proofs.judge.Statement.{statement}
+use Rattle.judging.proofs.judge.Tie as tie
 
 is-skip-yes-requires : tie.Need-is-skip-yes-requires
 is-skip-yes-requires c κs = search needs

@@ -1,9 +1,9 @@
 -- The flags that count are 1 exactly for an ignorable glyph (Care). Assumes nothing.
 use Rattle.verdict.specs.Verdict.{ignorable}
-use Rattle.verdict.specs.Care.{care-tells}
+use Rattle.skipping.specs.Care.{care-tells}
 use borrow.Author.Needs.{needs}
-use Rattle.verdict.proofs.is_ignorable.Statement.{statement}
-use Rattle.verdict.proofs.is_ignorable.Tie as tie
+use Rattle.skipping.proofs.is_ignorable.Statement.{statement}
+use Rattle.skipping.proofs.is_ignorable.Tie as tie
 
 care-requires : tie.Need-care-requires
 care-requires c κs = search needs

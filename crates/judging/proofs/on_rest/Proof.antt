@@ -1,8 +1,8 @@
 -- The two answers are weighed, as in the definition. Assumes nothing.
 use Rattle.verdict.specs.Verdict.{restOf}
 use borrow.Author.Needs.{needs}
-use Rattle.verdict.proofs.on_rest.Statement.{statement}
-use Rattle.verdict.proofs.on_rest.Tie as tie
+use Rattle.judging.proofs.on_rest.Statement.{statement}
+use Rattle.judging.proofs.on_rest.Tie as tie
 
 is-ignorable-requires : tie.Need-is-ignorable-requires
 is-ignorable-requires c κs = search needs

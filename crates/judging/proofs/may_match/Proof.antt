@@ -1,8 +1,8 @@
 -- What rules the glyph out is asked first, as in the definition. Assumes nothing.
 use Rattle.verdict.specs.Verdict.{matchOf}
 use borrow.Author.Needs.{needs}
-use Rattle.verdict.proofs.may_match.Statement.{statement}
-use Rattle.verdict.proofs.may_match.Tie as tie
+use Rattle.judging.proofs.may_match.Statement.{statement}
+use Rattle.judging.proofs.may_match.Tie as tie
 
 is-ruled-out-requires : tie.Need-is-ruled-out-requires
 is-ruled-out-requires c κs = search needs

@@ -1,8 +1,8 @@
 -- Skip Yes is asked first, then Maybe, as in the definition. Assumes nothing.
 use Rattle.verdict.specs.Verdict.{skipOf}
 use borrow.Author.Needs.{needs}
-use Rattle.verdict.proofs.may_skip.Statement.{statement}
-use Rattle.verdict.proofs.may_skip.Tie as tie
+use Rattle.skipping.proofs.may_skip.Statement.{statement}
+use Rattle.skipping.proofs.may_skip.Tie as tie
 
 is-skip-yes-requires : tie.Need-is-skip-yes-requires
 is-skip-yes-requires c κs = search needs

@@ -1,8 +1,8 @@
 -- By the two tests, as in the definition. Assumes nothing.
 use borrow.Author.Tests.{eq-eqb, ne-eqb}
 use borrow.Author.Needs.{needs}
-use Rattle.verdict.proofs.is_other_mark.Statement.{statement}
-use Rattle.verdict.proofs.is_other_mark.Tie as tie
+use Rattle.skipping.proofs.is_other_mark.Statement.{statement}
+use Rattle.skipping.proofs.is_other_mark.Tie as tie
 
 returns : tie.Need-returns
 returns c = rw (ne-eqb _ _ (c .if1 .taken))

@@ -1,8 +1,8 @@
 -- The tests are the definition's. Assumes nothing.
 use mathlib.Core.Path.{refl}
 use Rattle.verdict.specs.Verdict.{ruledOut}
-use Rattle.verdict.proofs.is_ruled_out.Statement.{statement}
-use Rattle.verdict.proofs.is_ruled_out.Tie as tie
+use Rattle.judging.proofs.is_ruled_out.Statement.{statement}
+use Rattle.judging.proofs.is_ruled_out.Tie as tie
 
 returns : tie.Need-returns
 unfolding ruledOut

@@ -1,8 +1,8 @@
 -- By the cases of the test. Assumes nothing.
 use Rattle.verdict.specs.Verdict.{valueOf}
 use borrow.Author.Needs.{needs}
-use Rattle.verdict.proofs.on_value.Statement.{statement}
-use Rattle.verdict.proofs.on_value.Tie as tie
+use Rattle.judging.proofs.on_value.Statement.{statement}
+use Rattle.judging.proofs.on_value.Tie as tie
 
 enum-told : tie.Need-enum-told
 enum-told c = search needs

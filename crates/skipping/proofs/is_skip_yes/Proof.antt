@@ -1,8 +1,8 @@
 -- An ignored class is asked first, as in the definition. Assumes nothing.
 use Rattle.verdict.specs.Verdict.{skipYes}
 use borrow.Author.Needs.{needs}
-use Rattle.verdict.proofs.is_skip_yes.Statement.{statement}
-use Rattle.verdict.proofs.is_skip_yes.Tie as tie
+use Rattle.skipping.proofs.is_skip_yes.Statement.{statement}
+use Rattle.skipping.proofs.is_skip_yes.Tie as tie
 
 cast-props : tie.Need-cast-props
 cast-props c = search needs

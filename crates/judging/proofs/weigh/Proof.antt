@@ -1,9 +1,9 @@
 -- By the cases of may match. Assumes nothing.
 use mathlib.Core.Path.{_∙_}
 use Rattle.verdict.specs.Laws.{weighed-no, weighed-yes, weighed-maybe}
 use borrow.Author.Needs.{needs}
-use Rattle.verdict.proofs.weigh.Statement.{statement}
-use Rattle.verdict.proofs.weigh.Tie as tie
+use Rattle.judging.proofs.weigh.Statement.{statement}
+use Rattle.judging.proofs.weigh.Tie as tie
 
 enum-told : tie.Need-enum-told
 enum-told c = search needs
