@@ -114,7 +114,7 @@ fn is_ahead(
         return true;
     }
     let wide = book::widen(values);
-    is_found(matching::lookahead(coming, start, syllable, q, sets, Test::Equal, &wide[0..n]))
+    is_found(contexts::lookahead(coming, start, syllable, q, sets, Test::Equal, &wide[0..n]))
 }
 
 // Whether backtrack values of the book are there before the cursor.
@@ -127,7 +127,7 @@ fn is_behind(before: &[u32], syllable: u8, q: Lookup, sets: &[u16], values: &[u1
         return true;
     }
     let wide = book::widen(values);
-    is_found(matching::backtrack(before, syllable, q, sets, Test::Equal, &wide[0..n]))
+    is_found(contexts::backtrack(before, syllable, q, sets, Test::Equal, &wide[0..n]))
 }
 
 // No chain that matched.

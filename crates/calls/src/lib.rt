@@ -73,7 +73,7 @@ pub fn match_lookahead(
     }
     let text = glyph::first(coming, len);
     let cursor = glyph::read(text, idx);
-    matching::lookahead(text, start, cursor.syllable, lookup, sets, test, values)
+    contexts::lookahead(text, start, cursor.syllable, lookup, sets, test, values)
 }
 
 // The values against the glyphs of the backward row, from its end.
@@ -97,9 +97,9 @@ pub fn match_backtrack<'a>(
     let settings = lookup.settings;
     let table = settings.table;
     let text = glyph::first(coming, len);
-    let row = matching::backward_row(table, done, d, text, idx);
+    let row = contexts::backward_row(table, done, d, text, idx);
     let cursor = glyph::read(text, idx);
-    matching::backtrack(row, cursor.syllable, lookup, sets, test, values)
+    contexts::backtrack(row, cursor.syllable, lookup, sets, test, values)
 }
 
 // ---- what the calls are refused for

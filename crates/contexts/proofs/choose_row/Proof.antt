@@ -1,7 +1,7 @@
 -- The table chooses. Assumes nothing.
 use borrow.Author.Needs.{needs}
-use Rattle.matching.proofs.choose_row.Statement.{statement}
-use Rattle.matching.proofs.choose_row.Tie as tie
+use Rattle.contexts.proofs.choose_row.Statement.{statement}
+use Rattle.contexts.proofs.choose_row.Tie as tie
 
 enum-told : tie.Need-enum-told
 enum-told c = search needs

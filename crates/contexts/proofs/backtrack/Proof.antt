@@ -15,12 +15,12 @@ use Rattle.verdict.specs.declared.Verdict.{Verdict}
 use Rattle.verdict.specs.declared.Verdict.the-variants.{Match, NotMatch, Skip}
 use Rattle.verdict.specs.Laws.{judged-yes, judged-rest}
 use Rattle.walk.specs.Walk.{afterBack, walkBack}
 use Rattle.matching.specs.declared.ContextMatch.{ContextMatch}
 use Rattle.matching.specs.Take.{behind}
 use Rattle.matching.specs.Matchers.{judge, backOn}
 use Rattle.matching.specs.Going.{told, toldBy, told-end, back-turn, back-skip, back-out}
-use Rattle.matching.proofs.backtrack.Statement.{statement}
-use Rattle.matching.proofs.backtrack.Tie as tie
+use Rattle.contexts.proofs.backtrack.Statement.{statement}
+use Rattle.contexts.proofs.backtrack.Tie as tie
 
 abbrev Inv-loop : tie.InvT-loop
 Inv-loop row syllable sets test values m place₀ i₀ place i =

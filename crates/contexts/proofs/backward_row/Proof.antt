@@ -1,4 +1,4 @@
--- `matching::backward_row` meets its contract: a walk of its MIR, by hand. It passes its parameters on to `choose_row`, which has one lifetime, 'd: `coming`, at 'c, is taken at 'd, which 'c outlives (`shr-bor-shorten`). All that the proof knows of `choose_row` is that it meets its contract.
+-- `contexts::backward_row` meets its contract: a walk of its MIR, by hand. It passes its parameters on to `choose_row`, which has one lifetime, 'd: `coming`, at 'c, is taken at 'd, which 'c outlives (`shr-bor-shorten`). All that the proof knows of `choose_row` is that it meets its contract.
 -- A `&[u32]` is Copy: what each owns is had twice, and one copy is kept for the exit, with the token of 'c. What a number or the table owns is made anew.
 -- Assumes nothing.
 use mathlib.Core.Path.{_≡_, refl}
@@ -44,15 +44,15 @@ use Rattle.glyph.specs.Glyph.{glyphsOf}
 use Rattle.verdict.specs.declared.Table.{Table}
 use Rattle.verdict.proofs.Table as T
 use Rattle.verdict.proofs.Table.Laws as T′
 use Rattle.matching.specs.Matchers.{firstOrNone, backwardGlyphs}
-use Rattle.matching.proofs.choose_row as choose
-use Rattle.matching.proofs.choose_row.Symbol as choose-def
-use Rattle.matching.proofs.choose_row.Symbol.{name as #matching·choose-row}
-use Rattle.matching.proofs.choose_row.Met as choose-thm
-use Rattle.matching.proofs.backward_row.Key.{name as #matching·backward-row}
-use Rattle.matching.proofs.backward_row as backward
-use Rattle.matching.proofs.backward_row.Statement as stated
-use Rattle.matching.proofs.backward_row.Code as code
+use Rattle.contexts.proofs.choose_row as choose
+use Rattle.contexts.proofs.choose_row.Symbol as choose-def
+use Rattle.contexts.proofs.choose_row.Symbol.{name as #contexts·choose-row}
+use Rattle.contexts.proofs.choose_row.Met as choose-thm
+use Rattle.contexts.proofs.backward_row.Key.{name as #contexts·backward-row}
+use Rattle.contexts.proofs.backward_row as backward
+use Rattle.contexts.proofs.backward_row.Statement as stated
+use Rattle.contexts.proofs.backward_row.Code as code
 
 abbrev Row : Type 0
 Row = RefT (List ℕ)
@@ -147,7 +147,7 @@ module _ {M : Type 1} (𝓤 : URA M) (H : Heap 𝓤) (A : Atoms 𝓤) (W : Given
       move ! (3 ∷ 0 ∷ []) $ fjoin ! $ owned ! usize (Is usize) (uint-makes 𝓤 H A W w64) m _ (refl, m-fits) $ fjoin ! $
       move ! (2 ∷ 0 ∷ []) $ fjoin ! $ owned ! T.the-row (Is T.the-row) (LL.makes T.the-type T′.the-plain 𝓤 H A) g _ g-is $ fjoin ! $ frame ! $ done !
 
-  module _ (C : Calls 𝓤 H) (Λ : Loops 𝓤 H) (fm : FmC 𝓤 H (W .laws) C) (known : Triple 𝓤 (C #matching·choose-row) (Choose 𝓤 H A mem run)) where
+  module _ (C : Calls 𝓤 H) (Λ : Loops 𝓤 H) (fm : FmC 𝓤 H (W .laws) C) (known : Triple 𝓤 (C #contexts·choose-row) (Choose 𝓤 H A mem run)) where
     walk : Is (ShrSlice (named 0) κ u32) x (vx ∷ []) → Is (ShrSlice (named 1) κ′ u32) y (vy ∷ []) → ent 𝓤 (onEntry 𝓤 H A backward.signature κs (q, (q′, tt)) a vals) (WpFn 𝓤 H C Λ code.function (val g ∷ vx ∷ vint w64 m ∷ vy ∷ vint w64 n ∷ []) Post)
     walk px py =
         qed W (raw (onEntry 𝓤 H A backward.signature κs (q, (q′, tt)) a vals) ∷ []) ∵ enter ! C Λ code.function (val g ∷ vx ∷ vint w64 m ∷ vy ∷ vint w64 n ∷ []) _ $
@@ -166,7 +166,7 @@ module _ {M : Type 1} (𝓤 : URA M) (H : Heap 𝓤) (A : Atoms 𝓤) (W : Given
         move ! (13 ∷ 14 ∷ []) $ free1 ! $ move ! (11 ∷ 12 ∷ []) $ free1 ! $ move ! (9 ∷ 10 ∷ []) $ free1 ! $ move ! (7 ∷ 8 ∷ []) $ free1 ! $ move ! (5 ∷ 6 ∷ []) $ free1 ! $ move ! (3 ∷ 4 ∷ []) $ free1 ! $ free0 ! $ by ! (exits r u e)))))))))))
 
 module _ {M : Type 1} (𝓤 : URA M) (H : Heap 𝓤) (A : Atoms 𝓤) (W : Given 𝓤 H A) (mem : Memory → SProp 𝓤) (run : Routine → Fun 𝓤) where
-  backward-walks : (C : Calls 𝓤 H) (Λ : Loops 𝓤 H) → FmC 𝓤 H (W .laws) C → Triple 𝓤 (C #matching·choose-row) (Choose 𝓤 H A mem run)
+  backward-walks : (C : Calls 𝓤 H) (Λ : Loops 𝓤 H) → FmC 𝓤 H (W .laws) C → Triple 𝓤 (C #contexts·choose-row) (Choose 𝓤 H A mem run)
       → Walks 𝓤 H A backward.ended stayed (WpFn 𝓤 H C Λ code.function) (backward.clauses 𝓤 H A mem run)
   backward-walks C Λ fm known = walked 𝓤 H A backward.ended stayed (backward.clauses 𝓤 H A mem run) (WpFn 𝓤 H C Λ code.function)
       (λ κs. (LL.vals T.the-type T′.the-laws, (slice-vals, (uint-vals w64, (slice-vals, (uint-vals w64, tt))))))
@@ -174,7 +174,7 @@ module _ {M : Type 1} (𝓤 : URA M) (H : Heap 𝓤) (A : Atoms 𝓤) (W : Given
       (λ κs qs bounds a g are. via 𝓤 _ (fst∗ 𝓤 _ (emp 𝓤)) (walk 𝓤 H A W mem run (κs .0) (κs .1 .0) (bounds .0) (qs .0) (qs .1 .0) (a .0) (a .1 .0) (a .1 .1 .0) (a .1 .1 .1 .0) (a .1 .1 .1 .1 .0) (are .0) (are .1 .1 .0 .1) (are .1 .1 .1 .1 .0 .1) C Λ fm known (are .1 .0) (are .1 .1 .1 .0)))
 
 backward-meets : {M : Type 1} (𝓤 : URA M) (H : Heap 𝓤) (A : Atoms 𝓤) (W : Given 𝓤 H A) (mem : Memory → SProp 𝓤) (run : Routine → Fun 𝓤) (𝓣 : Tables 𝓤 H)
-    → Triple 𝓤 (𝓣 .C #matching·choose-row) (Choose 𝓤 H A mem run)
+    → Triple 𝓤 (𝓣 .C #contexts·choose-row) (Choose 𝓤 H A mem run)
     → Meets 𝓤 H A backward.signature (WpFn 𝓤 H (𝓣 .C) (𝓣 .Λ) code.function) (backward.spec 𝓤 H A mem run)
 backward-meets 𝓤 H A W mem run 𝓣 known = walk-meets 𝓤 H A backward.ended stayed W
     (goes-none 𝓤 H A W 2 (λ _. T.the-row) yes (λ κs x f. refl), (goes-none-slice 𝓤 H A W 2 (0 ∷ []) tt (plain (λ _. u32)) yes, (goes-none 𝓤 H A W 2 (λ _. usize) yes (λ κs x f. refl), (goes-none-slice 𝓤 H A W 2 (1 ∷ []) tt (plain (λ _. u32)) yes, (goes-none 𝓤 H A W 2 (λ _. usize) yes (λ κs x f. refl), tt)))))
@@ -185,6 +185,6 @@ pub backward-row-spec : {M : Type 1} → stated.statement M
 unfolding code.routine tablesOf
 backward-row-spec 𝓤 H 𝓜 𝓖 𝓡 =
     entered 𝓤 H (tripleOf 𝓤 H (𝓖 .A) backward.signature (backward.spec 𝓤 H (𝓖 .A) (𝓜 .mem) (𝓡 .run)))
-    (tables 𝓤 H 𝓜 𝓡 code.env .C) (tables 𝓤 H 𝓜 𝓡 code.env .Λ) #matching·backward-row code.function (code.unfolded 𝓤 H 𝓜 𝓡)
+    (tables 𝓤 H 𝓜 𝓡 code.env .C) (tables 𝓤 H 𝓜 𝓡 code.env .Λ) #contexts·backward-row code.function (code.unfolded 𝓤 H 𝓜 𝓡)
     (backward-meets 𝓤 H (𝓖 .A) (givenOf 𝓤 H 𝓜 𝓖) (𝓜 .mem) (𝓡 .run) (tablesOf 𝓤 H 𝓜 (tables 𝓤 H 𝓜 𝓡 code.env))
-    (cited 𝓤 H (Choose 𝓤 H (𝓖 .A) (𝓜 .mem) (𝓡 .run)) 𝓜 𝓡 code.env #matching·choose-row choose-def.routine code.calls-matching·choose-row (choose-thm.met 𝓤 H 𝓜 𝓖 𝓡)))
+    (cited 𝓤 H (Choose 𝓤 H (𝓖 .A) (𝓜 .mem) (𝓡 .run)) 𝓜 𝓡 code.env #contexts·choose-row choose-def.routine code.calls-contexts·choose-row (choose-thm.met 𝓤 H 𝓜 𝓖 𝓡)))

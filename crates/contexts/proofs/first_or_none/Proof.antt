@@ -4,8 +4,8 @@ use lib.ListN.{length}
 use Rattle.glyph.specs.Glyph.{glyphsOf}
 use borrow.Author.Tests.{lt-ltb, le-ltb}
 use borrow.Author.Needs.{needs}
-use Rattle.matching.proofs.first_or_none.Statement.{statement}
-use Rattle.matching.proofs.first_or_none.Tie as tie
+use Rattle.contexts.proofs.first_or_none.Statement.{statement}
+use Rattle.contexts.proofs.first_or_none.Tie as tie
 
 count-requires : tie.Need-count-requires
 count-requires c κs = search needs

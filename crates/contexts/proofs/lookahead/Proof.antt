@@ -14,12 +14,12 @@ use Rattle.verdict.specs.Verdict.{judgeAt}
 use Rattle.walk.specs.declared.Walked.{Walked}
 use Rattle.walk.specs.declared.Walked.the-variants.{Found, Stopped, RanOut, Refused}
 use Rattle.walk.specs.Parts.{raised}
 use Rattle.matching.specs.Take.{ahead}
 use Rattle.matching.specs.Matchers.{judge, aheadOn}
 use Rattle.matching.specs.Going.{told, toldBy, told-on, told-end}
 use Rattle.matching.specs.Onward.{Within, walk-within, walk-part}
-use Rattle.matching.proofs.lookahead.Statement.{statement}
-use Rattle.matching.proofs.lookahead.Tie as tie
+use Rattle.contexts.proofs.lookahead.Statement.{statement}
+use Rattle.contexts.proofs.lookahead.Tie as tie
 
 abbrev Inv-loop : tie.InvT-loop
 Inv-loop text start syllable sets test values m onward len next₀ i₀ next i =
