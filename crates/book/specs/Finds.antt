@@ -1,4 +1,4 @@
--- What `find` answers by a book's index is that lookup of the definition: of a book that reads, the walk's k-th start is where lookup k begins.
+-- What `find_in` answers by a book's index is that lookup of the definition: of a book that reads, the walk's k-th start is where lookup k begins.
 use mathlib.Core.Path.{_≡_, refl, sym, ap, _∙_}
 use mathlib.Core.Bool.{Bool, true, false, cond}
 use mathlib.Core.List.{List, [], _∷_}

@@ -1,11 +1,11 @@
 // A book of lookups in u16 words: whether it reads, where its lookups begin, and where a lookup's parts stand.
-// The words are walked once, by `index_of`. `find` is then one look into the table of starts, and a few words of the lookup:
+// The words are walked once, by `index_of`. `find_in` is then one look into the table of starts, and a few words of the lookup:
 // its head, and for a chain its four numbers.
 ghost use mathlib.Core.Path.{_≡_};
 ghost use Prim.Native.Nat.{_≤_};
 ghost use lib.ListN.{length};
 ghost use Rattle.book.specs.Book.{mostSide, readBook, isRead};
-ghost use Rattle.book.specs.Places.{countedAt, oneAt, manyAt, chainAt, kindAt, entryAt, missing, sizeAt, indexOf, noIndex, foundIn, foundAt, widened};
+ghost use Rattle.book.specs.Places.{countedAt, oneAt, manyAt, chainAt, kindAt, entryAt, missing, sizeAt, indexOf, noIndex, foundIn, widened};
 
 pub const WORDS: usize = 4096;
 
@@ -103,15 +103,7 @@ fn nothing() -> Index
     }
 }
 
-// Lookup k of an indexed book.
-pub fn find(words: &[u16], i: Index, k: usize) -> Entry
-    ensures { λ r. ⌜ r ≡ foundAt (now (words .entry)) i k ⌝ }
-{
-    let starts = i.starts;
-    find_in(words, &starts, i.count, k)
-}
-
-// The same for a caller that lends the index's table rather than copying it.
+// Lookup k of an indexed book, for a caller that lends the index's table rather than copying it.
 pub fn find_in(words: &[u16], starts: &[u16; LOOKUPS], count: usize, k: usize) -> Entry
     ensures { λ r. ⌜ r ≡ foundIn (now (words .entry)) (now (starts .entry)) count k ⌝ }
 {
@@ -169,7 +161,7 @@ fn is_missing(e: Entry) -> bool
 }
 
 // The lookup that begins at `at`.
-pub fn entry_at(words: &[u16], at: usize) -> Entry
+fn entry_at(words: &[u16], at: usize) -> Entry
     ensures { λ r. ⌜ r ≡ entryAt (now (words .entry)) at ⌝ }
 {
     if words.len() < at {

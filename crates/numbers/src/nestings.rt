@@ -26,7 +26,7 @@ pub fn number_of(e: RunEnding) -> u8
     }
 }
 
-pub fn ended(e: Ending) -> u8
+fn ended(e: Ending) -> u8
     ensures { λ r. ⌜ r ≡ endingNumber e ⌝ }
 {
     match e {
@@ -37,7 +37,7 @@ pub fn ended(e: Ending) -> u8
     }
 }
 
-pub fn refused(why: Refusal) -> u8
+fn refused(why: Refusal) -> u8
     ensures { λ r. ⌜ r ≡ refusalNumber why ⌝ }
 {
     match why {
