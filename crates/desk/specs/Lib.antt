@@ -3,3 +3,4 @@ pub mod Allowances
 pub mod Walks
 pub mod Matches
 pub mod Runs
+pub mod Decided
