@@ -156,8 +156,8 @@ pub const SUBSTITUTED_IGNORABLE: Difference = Difference {
     examples: &[
         Example {
             input: "may skip, input matcher, everything 0 but word 2 of the glyph: 01000010",
-            original: "CSaid { number: 0, said: 0 }",
-            ours: "CSaid { number: 0, said: 2 }",
+            original: "Said { number: 0, said: 0 }",
+            ours: "Said { number: 0, said: 2 }",
             ask: Glyphs(|| {
                 let row = [[0, 0, 0x0100_0010, 0]];
                 let original = with_row(&NOTHING, &row, 1, 0, |row| row.may_skip(Role::Input, 0));
@@ -190,14 +190,14 @@ pub const JOINERS_OF_ANY_CATEGORY: Difference = Difference {
     examples: &[
         Example {
             input: "may skip, input matcher, everything 0 but word 2: 03000000, category not Cf",
-            original: "CSaid { number: 0, said: 2 }",
-            ours: "CSaid { number: 0, said: 0 }",
+            original: "Said { number: 0, said: 2 }",
+            ours: "Said { number: 0, said: 0 }",
             ask: Glyphs(|| joiner(0x0300_0000)),
         },
         Example {
             input: "may skip, input matcher, everything 0 but word 2: 05000000, category not Cf",
-            original: "CSaid { number: 0, said: 2 }",
-            ours: "CSaid { number: 0, said: 0 }",
+            original: "Said { number: 0, said: 2 }",
+            ours: "Said { number: 0, said: 0 }",
             ask: Glyphs(|| joiner(0x0500_0000)),
         },
     ],

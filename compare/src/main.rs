@@ -6,6 +6,11 @@
 #![no_main]
 
 mod allowances;
+// bindings/rust/src/c.rs, to which compare/run makes a link
+#[cfg_attr(not(target_arch = "x86_64"), allow(dead_code))]
+mod c;
+#[cfg(not(target_arch = "x86_64"))]
+mod customs;
 mod differences;
 mod digests;
 mod draw;

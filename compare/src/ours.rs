@@ -1,48 +1,39 @@
-//! The proved library's calls, as C sees them, and safe covers for them.
+//! The proved library's calls, as C sees them (c.rs, which is that of the Rust
+//! crate, bindings/rust), and safe covers for them. Of an answer every field and
+//! every slot is compared.
+use crate::c;
+pub use crate::c::{Matched as CMatched, Placed as CPlaced, Ran as CRan, Said as CSaid};
 use crate::paper::matchers::Text;
 use crate::runs::Case;
 use original::terms::{Call, Matched, May, Role, Setup, Test, Testing, Verdict, Walked};
 
-#[repr(C)]
-#[derive(Clone, Copy)]
-struct CLookup {
-    gpos: bool,
-    zwnj: bool,
-    zwj: bool,
-    syllables: bool,
-    mask: u32,
-    props: u32,
-}
-
-#[repr(C)]
-#[derive(Clone, Copy)]
-struct CSign {
-    test: u8,
-    syllable: u8,
-    value: u32,
-}
-
-/// How a call takes a struct for which x86-64, for which the library is made,
-/// has no register left: a walk's sign, a matcher's lookup. There it goes by
-/// value to the stack. A module that was compiled for another processor reads
-/// it where the caller keeps it.
+// The calls that need more registers than x86-64 has, and how they take a struct.
 #[cfg(target_arch = "x86_64")]
-type Handed<'a, T> = T;
-#[cfg(not(target_arch = "x86_64"))]
-type Handed<'a, T> = &'a T;
-
-#[cfg(target_arch = "x86_64")]
-fn hand<T: Copy>(what: &T) -> Handed<'_, T> {
-    *what
+mod wide {
+    pub use crate::c::{
+        cb_backward, cb_forward, cb_match_backtrack, cb_match_input, cb_match_lookahead,
+        cb_may_match, cb_run, cb_verdict,
+    };
+    pub fn hand<T: Copy>(what: &T) -> T {
+        *what
+    }
 }
 #[cfg(not(target_arch = "x86_64"))]
-fn hand<T: Copy>(what: &T) -> Handed<'_, T> {
-    what
+mod wide {
+    pub use crate::customs::{
+        module_cb_backward as cb_backward, module_cb_forward as cb_forward,
+        module_cb_match_backtrack as cb_match_backtrack, module_cb_match_input as cb_match_input,
+        module_cb_match_lookahead as cb_match_lookahead, module_cb_may_match as cb_may_match,
+        module_cb_run as cb_run, module_cb_verdict as cb_verdict,
+    };
+    pub fn hand<T>(what: &T) -> &T {
+        what
+    }
 }
+use wide::hand;
 
 /// A walk's answer as it is handed over: 0 found, 4 stopped or ran out, 1
-/// refused. Every field is compared.
-#[repr(C)]
+/// refused.
 #[derive(Clone, Copy, Debug, PartialEq, Eq)]
 pub struct CWalked {
     pub number: u8,
@@ -51,178 +42,11 @@ pub struct CWalked {
     pub place: usize,
 }
 
-/// A question's answer as it is handed over: 0 said, 1 refused.
-#[repr(C)]
-#[derive(Clone, Copy, Debug, PartialEq, Eq)]
-pub struct CSaid {
-    pub number: u8,
-    pub said: u8,
-}
-
-/// An input match as it is handed over: 0 matched, 4 with the extent as end, or
-/// a refusal's number. Every field and every slot is compared.
-#[repr(C)]
-#[derive(Clone, Copy, PartialEq, Eq)]
-pub struct CMatched {
-    pub number: u8,
-    pub total: u16,
-    pub end: usize,
-    pub count: usize,
-    pub positions: [u16; 64],
-}
-
-/// A context match as it is handed over: 0 matched at the place, 4 with the
-/// extent, or a refusal's number.
-#[repr(C)]
-#[derive(Clone, Copy, Debug, PartialEq, Eq)]
-pub struct CPlaced {
-    pub number: u8,
-    pub place: usize,
-}
-
-extern "C" {
-    fn cb_digest_new(masks: *mut [u64; 3]);
-    fn cb_digest_full(masks: *mut [u64; 3]);
-    fn cb_digest_clear(masks: *mut [u64; 3]);
-    fn cb_digest_union(masks: *mut [u64; 3], other: *const [u64; 3]);
-    fn cb_digest_add(masks: *mut [u64; 3], g: u32);
-    fn cb_digest_add_array(masks: *mut [u64; 3], glyphs: *const u32, n: usize);
-    fn cb_digest_add_range(masks: *mut [u64; 3], a: u32, b: u32) -> bool;
-    fn cb_digest_may_have(masks: *const [u64; 3], g: u32) -> bool;
-    fn cb_digest_may_intersect(masks: *const [u64; 3], other: *const [u64; 3]) -> bool;
-
-    fn cb_rule_set_digest_new() -> u64;
-    fn cb_rule_set_digest_full() -> u64;
-    fn cb_rule_set_digest_add(mask: u64, value: u32) -> u64;
-    fn cb_rule_set_digest_is_full(mask: u64) -> bool;
-    fn cb_rule_set_digest_may_have(mask: u64, value: u32) -> bool;
-
-    fn cb_budget_for_table_bytes(left: *mut [u64; 2], bytes: u64);
-    fn cb_budget_new(left: *mut [u64; 2], work: u64, bytes: u64);
-    fn cb_budget_work(left: *mut [u64; 2], visits: u64) -> bool;
-    fn cb_budget_alloc(left: *mut [u64; 2], count: u64, size: u64) -> bool;
-
-    fn cb_may_skip(
-        row: *const u32,
-        words: usize,
-        place: usize,
-        lookup: CLookup,
-        context: bool,
-        sets: *const u16,
-        n: usize,
-    ) -> CSaid;
-    fn cb_may_match(
-        row: *const u32,
-        words: usize,
-        place: usize,
-        lookup: CLookup,
-        context: bool,
-        sign: Handed<CSign>,
-    ) -> CSaid;
-    fn cb_verdict(
-        row: *const u32,
-        words: usize,
-        place: usize,
-        lookup: CLookup,
-        context: bool,
-        sign: Handed<CSign>,
-        sets: *const u16,
-        n: usize,
-    ) -> CSaid;
-    fn cb_forward(
-        row: *const u32,
-        words: usize,
-        len: usize,
-        place: usize,
-        lookup: CLookup,
-        context: bool,
-        sign: Handed<CSign>,
-        sets: *const u16,
-        n: usize,
-    ) -> CWalked;
-    fn cb_backward(
-        row: *const u32,
-        words: usize,
-        place: usize,
-        lookup: CLookup,
-        context: bool,
-        sign: Handed<CSign>,
-        sets: *const u16,
-        n: usize,
-    ) -> CWalked;
-
-    fn cb_match_lookahead(
-        done: *const u32,
-        done_words: usize,
-        d: usize,
-        coming: *const u32,
-        coming_words: usize,
-        len: usize,
-        idx: usize,
-        start: usize,
-        lookup: Handed<CLookup>,
-        sets: *const u16,
-        n: usize,
-        test: u8,
-        values: *const u32,
-        count: usize,
-    ) -> CPlaced;
-    fn cb_match_backtrack(
-        done: *const u32,
-        done_words: usize,
-        d: usize,
-        coming: *const u32,
-        coming_words: usize,
-        len: usize,
-        idx: usize,
-        lookup: Handed<CLookup>,
-        sets: *const u16,
-        n: usize,
-        test: u8,
-        values: *const u32,
-        count: usize,
-    ) -> CPlaced;
-}
-
-// How the input matcher hands its answer over: on x86-64 as C says, which is to
-// a place whose address goes before the arguments. A module that was compiled
-// for another processor keeps it there.
-#[cfg(target_arch = "x86_64")]
-extern "C" {
-    fn cb_match_input(
-        done: *const u32,
-        done_words: usize,
-        d: usize,
-        coming: *const u32,
-        coming_words: usize,
-        len: usize,
-        idx: usize,
-        lookup: Handed<CLookup>,
-        sets: *const u16,
-        n: usize,
-        test: u8,
-        values: *const u32,
-        count: usize,
-    ) -> CMatched;
-}
-#[cfg(not(target_arch = "x86_64"))]
-extern "C" {
-    fn cb_match_input(
-        answer: *mut CMatched,
-        done: *const u32,
-        done_words: usize,
-        d: usize,
-        coming: *const u32,
-        coming_words: usize,
-        len: usize,
-        idx: usize,
-        lookup: Handed<CLookup>,
-        sets: *const u16,
-        n: usize,
-        test: u8,
-        values: *const u32,
-        count: usize,
-    ) -> *mut CMatched;
+impl From<c::Step> for CWalked {
+    fn from(step: c::Step) -> Self {
+        let ran_out = unsafe { (&raw const step.ranout).cast::<u8>().read() };
+        Self { number: step.number, ran_out, place: step.place }
+    }
 }
 
 // Every call below is sound: the library reads and writes only what the
@@ -235,33 +59,33 @@ pub struct Digest(pub [u64; 3]);
 impl Digest {
     /// What was there before must not matter.
     pub fn new(mut before: [u64; 3]) -> Self {
-        unsafe { cb_digest_new(&mut before) };
+        unsafe { c::cb_digest_new(&mut before) };
         Self(before)
     }
     pub fn full(mut before: [u64; 3]) -> Self {
-        unsafe { cb_digest_full(&mut before) };
+        unsafe { c::cb_digest_full(&mut before) };
         Self(before)
     }
     pub fn clear(&mut self) {
-        unsafe { cb_digest_clear(&mut self.0) }
+        unsafe { c::cb_digest_clear(&mut self.0) }
     }
     pub fn union(&mut self, other: [u64; 3]) {
-        unsafe { cb_digest_union(&mut self.0, &other) }
+        unsafe { c::cb_digest_union(&mut self.0, &other) }
     }
     pub fn add(&mut self, g: u32) {
-        unsafe { cb_digest_add(&mut self.0, g) }
+        unsafe { c::cb_digest_add(&mut self.0, g) }
     }
     pub fn add_array(&mut self, glyphs: &[u32]) {
-        unsafe { cb_digest_add_array(&mut self.0, glyphs.as_ptr(), glyphs.len()) }
+        unsafe { c::cb_digest_add_array(&mut self.0, glyphs.as_ptr(), glyphs.len()) }
     }
     pub fn add_range(&mut self, a: u32, b: u32) -> bool {
-        unsafe { cb_digest_add_range(&mut self.0, a, b) }
+        unsafe { c::cb_digest_add_range(&mut self.0, a, b) }
     }
     pub fn may_have(&self, g: u32) -> bool {
-        unsafe { cb_digest_may_have(&self.0, g) }
+        unsafe { c::cb_digest_may_have(&self.0, g) }
     }
     pub fn may_intersect(&self, other: &[u64; 3]) -> bool {
-        unsafe { cb_digest_may_intersect(&self.0, other) }
+        unsafe { c::cb_digest_may_intersect(&self.0, other) }
     }
 }
 
@@ -269,19 +93,19 @@ pub struct RuleDigest(pub u64);
 
 impl RuleDigest {
     pub fn new() -> Self {
-        Self(unsafe { cb_rule_set_digest_new() })
+        Self(unsafe { c::cb_rule_set_digest_new() })
     }
     pub fn full() -> Self {
-        Self(unsafe { cb_rule_set_digest_full() })
+        Self(unsafe { c::cb_rule_set_digest_full() })
     }
     pub fn add(&mut self, value: u32) {
-        self.0 = unsafe { cb_rule_set_digest_add(self.0, value) };
+        self.0 = unsafe { c::cb_rule_set_digest_add(self.0, value) };
     }
     pub fn is_full(&self) -> bool {
-        unsafe { cb_rule_set_digest_is_full(self.0) }
+        unsafe { c::cb_rule_set_digest_is_full(self.0) }
     }
     pub fn may_have(&self, value: u32) -> bool {
-        unsafe { cb_rule_set_digest_may_have(self.0, value) }
+        unsafe { c::cb_rule_set_digest_may_have(self.0, value) }
     }
 }
 
@@ -292,34 +116,32 @@ pub struct Allowance(pub [u64; 2]);
 impl Allowance {
     pub fn for_table_bytes(bytes: u64) -> Self {
         let mut left = [u64::MAX; 2];
-        unsafe { cb_budget_for_table_bytes(&mut left, bytes) };
+        unsafe { c::cb_budget_for_table_bytes(&mut left, bytes) };
         Self(left)
     }
     pub fn new(work: u64, bytes: u64) -> Self {
         let mut left = [u64::MAX; 2];
-        unsafe { cb_budget_new(&mut left, work, bytes) };
+        unsafe { c::cb_budget_new(&mut left, work, bytes) };
         Self(left)
     }
     /// Taken (true) or Exhausted.
     pub fn work(&mut self, visits: u64) -> bool {
-        unsafe { cb_budget_work(&mut self.0, visits) }
+        unsafe { c::cb_budget_work(&mut self.0, visits) }
     }
     /// Taken (true) or Exhausted.
     pub fn alloc(&mut self, count: u64, size: u64) -> bool {
-        unsafe { cb_budget_alloc(&mut self.0, count, size) }
+        unsafe { c::cb_budget_alloc(&mut self.0, count, size) }
     }
 }
 
-impl CLookup {
-    fn of(setup: &Setup) -> Self {
-        Self {
-            gpos: setup.gpos,
-            zwnj: setup.auto_zwnj,
-            zwj: setup.auto_zwj,
-            syllables: setup.per_syllable,
-            mask: setup.mask,
-            props: setup.props,
-        }
+fn lookup(setup: &Setup) -> c::Lookup {
+    c::Lookup {
+        gpos: setup.gpos,
+        zwnj: setup.auto_zwnj,
+        zwj: setup.auto_zwj,
+        syllables: setup.per_syllable,
+        mask: setup.mask,
+        props: setup.props,
     }
 }
 
@@ -346,8 +168,8 @@ impl Sign {
             Test::Any | Test::None => self.spare,
         }
     }
-    fn in_c(self) -> CSign {
-        CSign { test: self.number(), syllable: self.syllable, value: self.value() }
+    fn in_c(self) -> c::Sought {
+        c::Sought { test: self.number(), syllable: self.syllable, value: self.value() }
     }
 }
 
@@ -388,42 +210,54 @@ pub struct Row<'a> {
 impl Row<'_> {
     pub fn may_skip(&self, role: Role, place: usize) -> CSaid {
         let (row, sets) = (self.words, &self.setup.sets);
-        let lookup = CLookup::of(self.setup);
+        let lookup = lookup(self.setup);
         let context = is_context(role);
         unsafe {
-            cb_may_skip(row.as_ptr(), row.len(), place, lookup, context, sets.as_ptr(), sets.len())
+            c::cb_may_skip(
+                row.as_ptr(),
+                row.len(),
+                place,
+                lookup,
+                context,
+                sets.as_ptr(),
+                sets.len(),
+            )
         }
     }
 
     pub fn may_match(&self, role: Role, place: usize, sign: Sign) -> CSaid {
         let row = self.words;
-        let lookup = CLookup::of(self.setup);
+        let lookup = lookup(self.setup);
         let context = is_context(role);
-        unsafe { cb_may_match(row.as_ptr(), row.len(), place, lookup, context, hand(&sign.in_c())) }
+        unsafe {
+            wide::cb_may_match(row.as_ptr(), row.len(), place, lookup, context, hand(&sign.in_c()))
+        }
     }
 
     pub fn verdict(&self, role: Role, place: usize, sign: Sign) -> CSaid {
         let (row, sets) = (self.words, &self.setup.sets);
         let (p, words, q, n) = (row.as_ptr(), row.len(), sets.as_ptr(), sets.len());
-        let lookup = CLookup::of(self.setup);
+        let lookup = lookup(self.setup);
         let context = is_context(role);
-        unsafe { cb_verdict(p, words, place, lookup, context, hand(&sign.in_c()), q, n) }
+        unsafe { wide::cb_verdict(p, words, place, lookup, context, hand(&sign.in_c()), q, n) }
     }
 
     pub fn forward(&self, role: Role, len: usize, place: usize, sign: Sign) -> CWalked {
         let (row, sets) = (self.words, &self.setup.sets);
         let (p, words, q, n) = (row.as_ptr(), row.len(), sets.as_ptr(), sets.len());
-        let lookup = CLookup::of(self.setup);
+        let lookup = lookup(self.setup);
         let context = is_context(role);
-        unsafe { cb_forward(p, words, len, place, lookup, context, hand(&sign.in_c()), q, n) }
+        unsafe { wide::cb_forward(p, words, len, place, lookup, context, hand(&sign.in_c()), q, n) }
+            .into()
     }
 
     pub fn backward(&self, role: Role, place: usize, sign: Sign) -> CWalked {
         let (row, sets) = (self.words, &self.setup.sets);
         let (p, words, q, n) = (row.as_ptr(), row.len(), sets.as_ptr(), sets.len());
-        let lookup = CLookup::of(self.setup);
+        let lookup = lookup(self.setup);
         let context = is_context(role);
-        unsafe { cb_backward(p, words, place, lookup, context, hand(&sign.in_c()), q, n) }
+        unsafe { wide::cb_backward(p, words, place, lookup, context, hand(&sign.in_c()), q, n) }
+            .into()
     }
 }
 
@@ -511,7 +345,7 @@ macro_rules! call {
     ($name:ident, [$($before:expr)?], $text:expr, [$($start:expr)?], $test:expr, $values:expr) => {{
         let Text { setup, done, d, coming, len, idx } = *$text;
         unsafe {
-            $name(
+            wide::$name(
                 $($before,)?
                 done.as_ptr(),
                 done.len(),
@@ -521,7 +355,7 @@ macro_rules! call {
                 len,
                 idx,
                 $($start,)?
-                hand(&CLookup::of(setup)),
+                hand(&lookup(setup)),
                 setup.sets.as_ptr(),
                 setup.sets.len(),
                 $test,
@@ -551,28 +385,6 @@ pub fn match_backtrack(text: &Text, test: u8, values: &[u32]) -> CPlaced {
 
 // ---- runs
 
-#[repr(C)]
-#[derive(Clone, Copy)]
-struct CSwitches {
-    zwnj: bool,
-    zwj: bool,
-    syllables: bool,
-    mask: u32,
-}
-
-/// A run's answer as it is handed over: 0 Finished, 8 Short, 9 Deep, 10 Full, or
-/// a refusal's number with everything else 0. Every field and slot is compared.
-#[repr(C)]
-#[derive(Clone, Copy, PartialEq, Eq)]
-pub struct CRan {
-    pub number: u8,
-    pub spent: u32,
-    pub d: usize,
-    pub idx: usize,
-    pub count: usize,
-    pub positions: [u16; 64],
-}
-
 impl CRan {
     pub const NOTHING: Self =
         Self { number: 0, spent: 0, d: 0, idx: 0, count: 0, positions: [0; 64] };
@@ -588,52 +400,14 @@ impl std::fmt::Debug for CRan {
     }
 }
 
-/// The arguments of a run, with what goes before and after them.
-macro_rules! run {
-    ($($answer:ident: $type:ty,)? => $out:ty) => {
-        fn cb_run(
-            $($answer: $type,)?
-            done: *mut u32,
-            done_words: usize,
-            coming: *mut u32,
-            coming_words: usize,
-            d: usize,
-            idx: usize,
-            sets: *const u16,
-            n: usize,
-            book: *const u16,
-            book_words: usize,
-            records: *const u16,
-            record_words: usize,
-            matched: Handed<CMatched>,
-            switches: Handed<CSwitches>,
-            allowance: u32,
-            depth: usize,
-        ) -> $out;
-    };
-}
-
-// As with the input matcher, the answer's place goes before the arguments.
-#[cfg(target_arch = "x86_64")]
-extern "C" {
-    run!(=> CRan);
-}
-#[cfg(not(target_arch = "x86_64"))]
-extern "C" {
-    run!(answer: *mut CRan, => *mut CRan);
-}
-extern "C" {
-    fn cb_book_reads(book: *const u16, words: usize) -> bool;
-}
-
 pub fn book_reads(book: &[u16]) -> bool {
-    unsafe { cb_book_reads(book.as_ptr(), book.len()) }
+    unsafe { c::cb_book_reads(book.as_ptr(), book.len()) }
 }
 
 /// Runs over the rows that are lent.
 pub fn run(case: &Case, done: &mut [u32], coming: &mut [u32]) -> CRan {
     let Case { setup, book, records, matched, allowance, depth, d, idx, .. } = case;
-    let switches = CSwitches {
+    let switches = c::Switches {
         zwnj: setup.auto_zwnj,
         zwj: setup.auto_zwj,
         syllables: setup.per_syllable,
@@ -642,7 +416,7 @@ pub fn run(case: &Case, done: &mut [u32], coming: &mut [u32]) -> CRan {
     macro_rules! call {
         ($($answer:expr)?) => {
             unsafe {
-                cb_run(
+                wide::cb_run(
                     $($answer,)?
                     done.as_mut_ptr(),
                     done.len(),

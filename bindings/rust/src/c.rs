@@ -24,7 +24,7 @@ pub struct Sought {
 }
 
 #[repr(C)]
-#[derive(Clone, Copy)]
+#[derive(Clone, Copy, Debug, PartialEq, Eq)]
 pub struct Said {
     pub number: u8,
     pub said: u8,
@@ -39,7 +39,7 @@ pub struct Step {
 }
 
 #[repr(C)]
-#[derive(Clone, Copy)]
+#[derive(Clone, Copy, PartialEq, Eq)]
 pub struct Matched {
     pub number: u8,
     pub total: u16,
@@ -49,7 +49,7 @@ pub struct Matched {
 }
 
 #[repr(C)]
-#[derive(Clone, Copy)]
+#[derive(Clone, Copy, Debug, PartialEq, Eq)]
 pub struct Placed {
     pub number: u8,
     pub place: usize,
@@ -65,7 +65,7 @@ pub struct Switches {
 }
 
 #[repr(C)]
-#[derive(Clone, Copy)]
+#[derive(Clone, Copy, PartialEq, Eq)]
 pub struct Ran {
     pub number: u8,
     pub spent: u32,

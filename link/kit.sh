@@ -1,0 +1,19 @@
+# Sourced by the scripts that use the toolchain. Sets kit, its folder, and tools, its part for this machine.
+# shellcheck shell=sh
+if ! command -v rt >/dev/null; then
+    echo "$0: there is no rt, the command of the Rattle toolchain, on the PATH" >&2
+    exit 2
+fi
+guide=$(rt doc)
+kit=${guide%/docs/*}
+tools=$kit/on/$(uname -m)/toolchain
+
+# Puts a program for x86-64 behind the kit's loader and C library, as rt itself runs it, and behind the kit's emulator, which is there on
+# another processor. DO is exec, command or what else is to be done with the words.
+on_kit() { # DO PROGRAM ARGUMENTS..
+    with=$1
+    shift
+    set -- "$tools/lib/ld-linux-x86-64.so.2" --library-path "$tools/lib" "$@"
+    [ ! -x "$tools/bin/qemu-x86_64" ] || set -- "$tools/bin/qemu-x86_64" "$@"
+    "$with" "$@"
+}
