@@ -4,7 +4,7 @@
 //! said here.
 use crate::matches::{plain, Case, Question};
 use crate::ours::{Answer, CSaid, CWalked, Row, Sign};
-use crate::runs;
+use crate::{runs, walks};
 use original::glyphs::Glyph;
 use original::hook::Mode;
 use original::matches::with_written_text;
@@ -25,15 +25,21 @@ struct Example {
 }
 
 enum Ask {
-    /// Answers the original's answer and ours.
-    Glyphs(fn() -> (String, String)),
+    /// May skip, by the input matcher, on a glyph with all words 0 but word 2.
+    Skip(u32),
+    /// The same; in the original the character's category isn't Cf.
+    SkipOrdinary(u32),
+    /// Forward by the context matcher over glyphs, from a place.
+    Forward(fn() -> (Vec<Glyph>, usize, Test)),
+    /// A run, and how the original is asked for it.
+    Run(fn() -> (runs::Case, Mode)),
     /// A question to a matcher; the original holds the ligature's numbers as
     /// it would write them.
     Match(fn() -> (Case, Question)),
     /// The same where the original's own assertions, if on, end the program.
     Unchecked(fn() -> (Case, Question)),
 }
-use Ask::{Glyphs, Match, Unchecked};
+use Ask::{Forward, Match, Run, Skip, SkipOrdinary, Unchecked};
 
 pub const EXPECTED: [&Difference; 15] = [
     &SUBSTITUTED_IGNORABLE,
@@ -59,7 +65,7 @@ pub const WRITTEN_PROPS: Difference = Difference {
         input: "run over ids 5, 9, 7, 9 default ignorable: 9 into 8, then where 5, 7 stand 5 into 6; nothing put back",
         original: "0, spent 2, positions [0, 1, 2], [5, 8, 7] and []",
         ours: "0, spent 3, positions [0, 1, 2], [6, 8, 7] and []",
-        ask: Glyphs(|| runs::both(&nested([1, 9, 8], 0, 0x0100_0000), Mode::Loud)),
+        ask: Run(|| (nested([1, 9, 8], 0, 0x0100_0000), Mode::Loud)),
     }],
 };
 
@@ -69,7 +75,7 @@ pub const WRITTEN_LIGATURES: Difference = Difference {
         input: "run over ids 5, 9, 7, 9 a ligature: 9 into 8, 8, then where 5, 7 stand 5 into 6, ligatures ignored; nothing put back",
         original: "0, spent 2, positions [0, 1, 2, 3], [5, 8, 8, 7] and []",
         ours: "0, spent 3, positions [0, 1, 2, 3], [6, 8, 8, 7] and []",
-        ask: Glyphs(|| runs::both(&nested([2, 9, 8], 4, 4), Mode::Loud)),
+        ask: Run(|| (nested([2, 9, 8], 4, 4), Mode::Loud)),
     }],
 };
 
@@ -80,13 +86,13 @@ pub const ALLOWANCE_OF_TRIES: Difference = Difference {
             input: "K11 without the hook, the allowance as max_ops, which moves take from",
             original: "1, spent 0, positions [0, 1, 2], [1] and [2, 3]",
             ours: "0, spent 1, positions [0, 1, 2, 3], [1, 2, 2, 3] and []",
-            ask: Glyphs(|| runs::both(&growing(&[1, 2, 3], &[1, 0], 1), Mode::Raw)),
+            ask: Run(|| (growing(&[1, 2, 3], &[1, 0], 1), Mode::Raw)),
         },
         Example {
             input: "K12 without the hook",
             original: "1, spent 0, positions [0, 1, 2], [] and [1, 2, 3]",
             ours: "8, spent 0, positions [0, 1, 2], [1, 2, 3] and []",
-            ask: Glyphs(|| runs::both(&growing(&[1, 2, 3], &[1, 0], 0), Mode::Raw)),
+            ask: Run(|| (growing(&[1, 2, 3], &[1, 0], 0), Mode::Raw)),
         },
     ],
 };
@@ -97,9 +103,9 @@ pub const FULL: Difference = Difference {
         input: "run over 1,024 glyphs of which one grows, without the hook",
         original: "0, spent 1, positions [0, 1, 2, 3], 1025 glyphs, 4 done",
         ours: "10, spent 1, positions [0, 1, 2], 1024 glyphs, 1 done",
-        ask: Glyphs(|| {
+        ask: Run(|| {
             let ids = [&[1, 2, 3][..], &[3; 1021]].concat();
-            runs::both(&growing(&ids, &[1, 0], 1000), Mode::Raw)
+            (growing(&ids, &[1, 0], 1000), Mode::Raw)
         }),
     }],
 };
@@ -111,18 +117,18 @@ pub const DAMAGED_RUNS: Difference = Difference {
             input: "K11 with a match whose first position is the second glyph",
             original: "0, spent 1, positions [1, 2], [1, 2, 3] and []",
             ours: "7",
-            ask: Glyphs(|| {
+            ask: Run(|| {
                 let mut case = growing(&[1, 2, 3], &[1, 0], 1);
                 case.matched.count = 2;
                 case.matched.positions.copy_within(1..3, 0);
-                runs::both(&case, Mode::Hooked)
+                (case, Mode::Hooked)
             }),
         },
         Example {
             input: "17 records, each of a lookup that isn't there",
             original: "0, spent 17, positions [0, 1, 2], [1, 2, 3] and []",
             ours: "1",
-            ask: Glyphs(|| runs::both(&growing(&[1, 2, 3], &[0, 9].repeat(17), 99), Mode::Hooked)),
+            ask: Run(|| (growing(&[1, 2, 3], &[0, 9].repeat(17), 99), Mode::Hooked)),
         },
     ],
 };
@@ -158,19 +164,15 @@ pub const SUBSTITUTED_IGNORABLE: Difference = Difference {
             input: "may skip, input matcher, everything 0 but word 2 of the glyph: 01000010",
             original: "Said { number: 0, said: 0 }",
             ours: "Said { number: 0, said: 2 }",
-            ask: Glyphs(|| {
-                let row = [[0, 0, 0x0100_0010, 0]];
-                let original = with_row(&NOTHING, &row, 1, 0, |row| row.may_skip(Role::Input, 0));
-                both(CSaid::of_may(Some(original)), ours(&NOTHING, &row).may_skip(Role::Input, 0))
-            }),
+            ask: Skip(0x0100_0010),
         },
         Example {
             input: "forward from 0 for id 7, context matcher, ids 5, 9, 7, 9's word 2: 01000010",
             original: "CWalked { number: 4, ran_out: 0, place: 2 }",
             ours: "CWalked { number: 0, ran_out: 0, place: 2 }",
-            ask: Glyphs(|| {
-                let row = [[5, 1, 0, 0], [9, 1, 0x0100_0010, 0], [7, 1, 0, 0]];
-                forward(&row, 0, Test::Equal(7))
+            ask: Forward(|| {
+                let row = vec![[5, 1, 0, 0], [9, 1, 0x0100_0010, 0], [7, 1, 0, 0]];
+                (row, 0, Test::Equal(7))
             }),
         },
         Example {
@@ -192,13 +194,13 @@ pub const JOINERS_OF_ANY_CATEGORY: Difference = Difference {
             input: "may skip, input matcher, everything 0 but word 2: 03000000, category not Cf",
             original: "Said { number: 0, said: 2 }",
             ours: "Said { number: 0, said: 0 }",
-            ask: Glyphs(|| joiner(0x0300_0000)),
+            ask: SkipOrdinary(0x0300_0000),
         },
         Example {
             input: "may skip, input matcher, everything 0 but word 2: 05000000, category not Cf",
             original: "Said { number: 0, said: 2 }",
             ours: "Said { number: 0, said: 0 }",
-            ask: Glyphs(|| joiner(0x0500_0000)),
+            ask: SkipOrdinary(0x0500_0000),
         },
     ],
 };
@@ -210,13 +212,13 @@ pub const DAMAGED_WALKS: Difference = Difference {
             input: "forward from 1 in an empty row",
             original: "CWalked { number: 4, ran_out: 1, place: 2 }",
             ours: "CWalked { number: 1, ran_out: 0, place: 0 }",
-            ask: Glyphs(|| forward(&[], 1, Test::None)),
+            ask: Forward(|| (vec![], 1, Test::None)),
         },
         Example {
             input: "forward from 1,023 over 1,025 glyphs with all words 0",
             original: "CWalked { number: 4, ran_out: 0, place: 1025 }",
             ours: "CWalked { number: 1, ran_out: 0, place: 0 }",
-            ask: Glyphs(|| forward(&[[0; 4]; 1025], 1023, Test::None)),
+            ask: Forward(|| (vec![[0; 4]; 1025], 1023, Test::None)),
         },
     ],
 };
@@ -377,23 +379,23 @@ fn over(done: &[Glyph], coming: &[Glyph]) -> Case {
     Case::new(plain(false, 0), done.to_vec(), coming.to_vec(), 0)
 }
 
-fn asked(call: Call, values: &[u32]) -> Question {
+fn question(call: Call, values: &[u32]) -> Question {
     Question { call, testing: Testing::Equal, spare: 0, values: values.to_vec() }
 }
 
 fn input(values: &[u32]) -> Question {
-    asked(Call::Input, values)
+    question(Call::Input, values)
 }
 
 fn ahead(start: usize, values: &[u32]) -> Question {
-    asked(Call::Lookahead(start), values)
+    question(Call::Lookahead(start), values)
 }
 
 fn back(values: &[u32]) -> Question {
-    asked(Call::Backtrack, values)
+    question(Call::Backtrack, values)
 }
 
-const NOTHING: Setup = Setup {
+static NOTHING: Setup = Setup {
     gpos: false,
     auto_zwnj: false,
     auto_zwj: false,
@@ -403,36 +405,75 @@ const NOTHING: Setup = Setup {
     sets: vec![],
 };
 
-fn both<T: Debug>(original: T, ours: T) -> (String, String) {
-    (format!("{original:?}"), format!("{ours:?}"))
+/// A question to a glyph, or a walk, with nothing set.
+pub struct OnRow {
+    pub row: Vec<Glyph>,
+    pub role: Role,
+    pub place: usize,
+    pub sign: Sign,
 }
 
-fn ours<'a>(setup: &'a Setup, row: &'a [Glyph]) -> Row<'a> {
-    Row { setup, words: row.as_flattened() }
+impl OnRow {
+    fn new(row: Vec<Glyph>, role: Role, place: usize, test: Test) -> Self {
+        Self { row, role, place, sign: Sign { test, syllable: 0, spare: 2 } }
+    }
+    pub fn case(&self) -> walks::Case {
+        walks::Case::new(NOTHING.clone(), self.row.clone(), self.row.len(), 0)
+    }
+    fn ours(&self) -> Row<'_> {
+        Row { setup: &NOTHING, words: self.row.as_flattened() }
+    }
+    pub fn may_skip(&self) -> CSaid {
+        self.ours().may_skip(self.role, self.place)
+    }
+    pub fn forward(&self) -> CWalked {
+        self.ours().forward(self.role, self.row.len(), self.place, self.sign)
+    }
 }
 
-fn forward(row: &[Glyph], place: usize, test: Test) -> (String, String) {
-    let (role, len) = (Role::Context, row.len());
-    let original = with_row(&NOTHING, row, len, 0, |row| row.forward(role, place, test));
-    let sign = Sign { test, syllable: 0, spare: 2 };
-    both(CWalked::of(Some(original)), ours(&NOTHING, row).forward(role, len, place, sign))
-}
-
-fn joiner(word2: u32) -> (String, String) {
-    let row = [[0, 0, word2, 0]];
-    let original = with_ordinary_row(&NOTHING, &row, 1, 0, |row| row.may_skip(Role::Input, 0));
-    both(CSaid::of_may(Some(original)), ours(&NOTHING, &row).may_skip(Role::Input, 0))
+fn shown(original: impl Debug, ours: impl Debug) -> (Option<String>, String) {
+    (Some(format!("{original:?}")), format!("{ours:?}"))
 }
 
 impl Ask {
+    fn on_row(&self) -> Option<OnRow> {
+        match self {
+            Skip(word2) | SkipOrdinary(word2) => {
+                Some(OnRow::new(vec![[0, 0, *word2, 0]], Role::Input, 0, Test::None))
+            }
+            Forward(make) => {
+                let (row, place, test) = make();
+                Some(OnRow::new(row, Role::Context, place, test))
+            }
+            Run(_) | Match(_) | Unchecked(_) => None,
+        }
+    }
+
     /// The original's answer, if it may be asked, and ours.
     fn ask(&self) -> (Option<String>, String) {
+        if let Some(asked) = self.on_row() {
+            let OnRow { row, role, place, sign } = &asked;
+            let may_skip = |held: &mut original::walks::Row| held.may_skip(*role, *place);
+            let told = match self {
+                SkipOrdinary(_) => with_ordinary_row(&NOTHING, row, row.len(), 0, may_skip),
+                Skip(_) => with_row(&NOTHING, row, row.len(), 0, may_skip),
+                _ => {
+                    let ask =
+                        |held: &mut original::walks::Row| held.forward(*role, *place, sign.test);
+                    let told = with_row(&NOTHING, row, row.len(), 0, ask);
+                    return shown(CWalked::of(Some(told)), asked.forward());
+                }
+            };
+            return shown(CSaid::of_may(Some(told)), asked.may_skip());
+        }
         let (case, question) = match self {
-            Glyphs(ask) => {
-                let (original, ours) = ask();
+            Run(make) => {
+                let (case, mode) = make();
+                let (original, ours) = runs::both(&case, mode);
                 return (Some(original), ours);
             }
             Match(make) | Unchecked(make) => make(),
+            Skip(_) | SkipOrdinary(_) | Forward(_) => unreachable!("asked above"),
         };
         let ends = matches!(self, Unchecked(_)) && cfg!(debug_assertions);
         let original = (!ends).then(|| {
@@ -443,12 +484,29 @@ impl Ask {
     }
 }
 
+fn asked() -> impl Iterator<Item = &'static Ask> {
+    EXPECTED.iter().flat_map(|difference| difference.examples).map(|example| &example.ask)
+}
+
+/// Each question to a glyph (true: a walk) that is listed here.
+pub fn on_rows() -> Vec<(bool, OnRow)> {
+    asked().filter_map(|ask| Some((matches!(ask, Forward(_)), ask.on_row()?))).collect()
+}
+
 /// Each question to a matcher that is listed here.
 pub fn questions() -> Vec<(Case, Question)> {
-    let examples = EXPECTED.iter().flat_map(|difference| difference.examples);
-    let made = examples.filter_map(|example| match example.ask {
+    let made = asked().filter_map(|ask| match ask {
         Match(make) | Unchecked(make) => Some(make()),
-        Glyphs(_) => None,
+        _ => None,
+    });
+    made.collect()
+}
+
+/// Each run that is listed here.
+pub fn runs() -> Vec<runs::Case> {
+    let made = asked().filter_map(|ask| match ask {
+        Run(make) => Some(make().0),
+        _ => None,
     });
     made.collect()
 }

@@ -40,8 +40,9 @@ compare/run trials [--steps N] [--seed S]
                                     wrong answers in place of ours, each of which must be noticed
 compare/run timing [--rounds N]     how long both sides take: digests, walks, matches, runs, the tape
 compare/run tape-timing             the tape alone
-compare/run store KIND FILE         write a stored list of the original's answers: small, walks, matches, runs
-compare/run store differences FILE  write our answers to the matchers' expected differences
+compare/run store KIND FILE         write a stored list of the original's answers: small, walks, matches, runs;
+                                    tape: frames
+compare/run tape-original < FRAMES  the original's answers to a tape
 compare/run differences             the headings of the expected differences";
 
 const STEPS: u64 = 1_000_000;

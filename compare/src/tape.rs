@@ -350,7 +350,7 @@ fn write_lines(
     let _ = out.flush();
 }
 
-// ---- for timing
+// ---- for timing, and for what is stored
 
 /// What the original answers; `--` where it can't hold the text.
 fn answered(frame: &Frame) -> String {
@@ -367,6 +367,26 @@ fn answered(frame: &Frame) -> String {
         }
     };
     line_of(&Answer::of(Call::Input, &told))
+}
+
+/// Frames for crates/bench_tape, so many for each opening of an answer, to which
+/// the original behind the tape and the second reading say the same: not those on
+/// which the two are known to differ, nor what the original can't hold.
+pub fn agreed(mut wanted: Vec<(&str, usize)>, seed: u64) -> Vec<String> {
+    let (mut frames, mut bytes) = (vec![], vec![]);
+    let drawn = Lines::new(u64::MAX / 2, seed).filter(|line| line.made == FRAME);
+    for Line { bytes: line, .. } in drawn {
+        if wanted.iter().all(|of| of.1 == 0) {
+            break;
+        }
+        let told = answered(&frame(&line, &mut bytes).expect("a frame was drawn"));
+        let due = wanted.iter_mut().find(|of| of.1 > 0 && told.starts_with(of.0));
+        if let Some(of) = due.filter(|_| told == reading(&line, &mut bytes)) {
+            of.1 -= 1;
+            frames.push(String::from_utf8(line).expect("digits"));
+        }
+    }
+    frames
 }
 
 /// The original behind the tape, and nothing else: no second reading.

@@ -55,6 +55,10 @@ pub fn write(list: &mut List) {
         let question = matches::draw_question(random, &case, call);
         push(list, &case, &question, &mut by);
     }
+    for (case, question) in differences::questions() {
+        let ours = question.ours(&case);
+        list.push(line(100, &case, &question, ours, true));
+    }
     println!("decided by, in the list");
     for (name, times) in NAMES.iter().zip(by).filter(|entry| entry.1 > 0) {
         println!("  {times:>9}  {name}");
@@ -177,13 +181,5 @@ fn every_base(list: &mut List, random: &mut Random, by: &mut [u64; NAMES.len()])
         if wanted && answered.is_ok() {
             push(list, &case, &question, by);
         }
-    }
-}
-
-/// The questions of the expected differences, with our answers.
-pub fn write_differences(list: &mut List) {
-    for (case, question) in differences::questions() {
-        let ours = question.ours(&case);
-        list.push(line(100, &case, &question, ours, true));
     }
 }

@@ -1,7 +1,8 @@
 //! Writes the stored lists that proved programs replay. The original is asked,
 //! or, for a refusal, which it hasn't, the second reading; the same call writes
-//! the same file on every machine. `differences` alone has our answers: to the
-//! questions on which the two are known to differ.
+//! the same file on every machine. At the end of a list stand the questions of
+//! `differences.rs`, on which the two are known to differ, each under its
+//! operation and 100 more, with our answers.
 //!
 //! A list is lines of words of 32 bits, and nothing else: each word is eight
 //! capital hexadecimal digits and one byte more, a blank between the words of
@@ -13,6 +14,7 @@ mod runs;
 mod small;
 mod walks;
 
+use crate::tape;
 use std::collections::BTreeMap;
 use std::fmt::Write;
 
@@ -24,8 +26,20 @@ const KINDS: &[(&str, fn(&mut List))] = &[
     ("walks", walks::write),
     ("matches", matches::write),
     ("runs", runs::write),
-    ("differences", matches::write_differences),
+    ("tape", write_frames),
 ];
+
+/// How many frames of each answer.
+const FRAMES: [(&str, usize); 5] = [("00", 160), ("02", 40), ("03", 20), ("04", 120), ("05", 60)];
+const FRAMES_SEED: u64 = 9;
+
+/// Frames of the bench tape, a line each. Their answers are `tape-original`'s.
+fn write_frames(list: &mut List) {
+    for frame in tape::agreed(FRAMES.to_vec(), FRAMES_SEED) {
+        list.text += &frame;
+        list.text.push('\n');
+    }
+}
 
 /// The words of a line.
 #[derive(Default)]
@@ -87,7 +101,7 @@ pub fn write(kind: &str, path: &str) -> Option<i32> {
         eprintln!("{path}: {error}");
         return Some(1);
     }
-    println!("{path}: {} lines, {bytes} bytes", list.lines.values().sum::<usize>());
+    println!("{path}: {} lines, {bytes} bytes", list.text.lines().count());
     for (operation, lines) in list.lines {
         println!("  {lines:>9}  of operation {operation}");
     }

@@ -13,18 +13,22 @@
 //!
 //! The answers are the original's behind its hooks, on which Short and Full rest
 //! (original/src/asked/hook.rs). Nothing is refused here, and every text is one
-//! that the original can hold.
+//! that the original can hold. Where the two differ (docs/DIFFERENCES.md) the
+//! operation is 150, in the same form, with our answer; after a refusal the text
+//! is as it was.
 use super::{Line, List};
+use crate::differences;
 use crate::paper::runs::{By, NAMES};
 use crate::random::Random;
 use crate::runs::corners::{at_the_limit, cards};
 use crate::runs::draw::{draw_book, draw_case, draw_setup, style, Style};
-use crate::runs::Case;
+use crate::runs::{After, Case};
 use original::hook::Mode;
 use original::runs::Book;
 
 const SEED: u64 = 6;
-const ENOUGH: usize = 985_000;
+/// Where the list ends, so that the differences find room behind it.
+const ENOUGH: usize = 925_000;
 /// The longest line of those that are drawn, and of those that fill the list.
 const LONGEST: usize = 1_500;
 const SHORT: usize = 260;
@@ -49,6 +53,20 @@ pub fn write(list: &mut List) {
             break;
         }
         draw(&mut writer, random, seldom);
+    }
+    for case in differences::runs() {
+        let After { answer, done, coming } = case.ours();
+        let (d, idx) = match answer.number {
+            0 | 8..=10 => (answer.d, answer.idx),
+            _ => (case.d, case.idx),
+        };
+        let line = question(150, &case)
+            .word(answer.number)
+            .words(&[answer.spent, answer.d as u32, answer.idx as u32])
+            .narrow(&answer.positions[..answer.count])
+            .list(&done[..4 * d])
+            .list(&coming[4 * idx..]);
+        writer.list.push(line);
     }
     println!("decided by, in lines of the list");
     for (name, times) in NAMES.iter().zip(writer.by).filter(|entry| entry.1 > 0) {
@@ -85,6 +103,22 @@ fn draw(writer: &mut Writer, random: &mut Random, seldom: bool) {
     }
 }
 
+fn question(operation: u32, case: &Case) -> Line {
+    let setup = &case.setup;
+    Line::of(operation)
+        .word(setup.auto_zwnj)
+        .word(setup.auto_zwj)
+        .word(setup.per_syllable)
+        .words(&[setup.mask, case.allowance, case.depth as u32])
+        .words(&[case.idx as u32, case.matched.end as u32, case.matched.total.into()])
+        .narrow(&case.matched.positions[..case.matched.count])
+        .narrow(&setup.sets)
+        .narrow(&case.book)
+        .narrow(&case.records)
+        .list(&case.done[..4 * case.d])
+        .list(&case.coming[4 * case.idx..])
+}
+
 impl Writer<'_> {
     /// Writes the original's answer if `wanted` says so of what decided, each with
     /// how often it has, and of the number of words.
@@ -106,19 +140,7 @@ impl Writer<'_> {
             return false;
         };
         decided.iter().for_each(|&why| self.by[why] += 1);
-        let setup = &case.setup;
-        let line = Line::of(50)
-            .word(setup.auto_zwnj)
-            .word(setup.auto_zwj)
-            .word(setup.per_syllable)
-            .words(&[setup.mask, case.allowance, case.depth as u32])
-            .words(&[case.idx as u32, case.matched.end as u32, case.matched.total.into()])
-            .narrow(&case.matched.positions[..case.matched.count])
-            .narrow(&setup.sets)
-            .narrow(&case.book)
-            .narrow(&case.records)
-            .list(&case.done[..4 * case.d])
-            .list(&case.coming[4 * case.idx..])
+        let line = question(50, case)
             .word(ran.ending)
             .words(&[ran.spent as u32, ran.done.len() as u32, ran.idx as u32])
             .list(&ran.positions)

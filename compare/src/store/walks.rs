@@ -17,13 +17,14 @@
 //! them by 1; the original has no refusals, so said is the second reading's
 //! (src/paper.rs), and it is 9. No walk is refused here, and no ignorable glyph
 //! has the props bit 0x10, on which the original answers otherwise
-//! (docs/DIFFERENCES.md).
+//! (docs/DIFFERENCES.md). Those differences have operations 130 and 132, in the
+//! same form, with our answer.
 use super::{Line, List};
-use crate::draw;
-use crate::ours::Sign;
+use crate::ours::{CWalked, Sign};
 use crate::paper;
 use crate::random::Random;
 use crate::walks::{self, Case, Way};
+use crate::{differences, draw};
 use original::glyphs::Glyph;
 use original::terms::{Role, Setup, Test, Walked, ROLES};
 use original::walks::{with_row, Row};
@@ -69,6 +70,18 @@ pub fn write(list: &mut List) {
         list.push(asked.may_match());
     }
     refused(list);
+    for (walks, on_row) in differences::on_rows() {
+        let case = on_row.case();
+        let asked = Asked::new(&case, on_row.role, on_row.place, on_row.sign);
+        list.push(match walks {
+            false => asked.question(130, 0).word(on_row.may_skip().said),
+            true => {
+                let CWalked { number, ran_out, place } = on_row.forward();
+                let line = asked.question(132, case.len);
+                line.word(number).word(ran_out).word(place as u32)
+            }
+        });
+    }
 }
 
 /// Mostly one from which something is tested.
