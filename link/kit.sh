@@ -1,4 +1,4 @@
-# Sourced by the scripts that use the toolchain. Sets kit, its folder, and tools, its part for this machine.
+# Sourced by the scripts that use the toolchain. Sets kit, its folder, and tools, its part for this machine; what else they share.
 # shellcheck shell=sh
 if ! command -v rt >/dev/null; then
     echo "$0: there is no rt, the command of the Rattle toolchain, on the PATH" >&2
@@ -16,4 +16,15 @@ on_kit() { # DO PROGRAM ARGUMENTS..
     set -- "$tools/lib/ld-linux-x86-64.so.2" --library-path "$tools/lib" "$@"
     [ ! -x "$tools/bin/qemu-x86_64" ] || set -- "$tools/bin/qemu-x86_64" "$@"
     "$with" "$@"
+}
+
+# Sets rustc to a Rust compiler with the standard library for TARGET and for this machine, on which derives and build scripts run; or to nothing.
+find_rustc() { # TARGET
+    for rustc in ${RUSTC:-rustc /usr/bin/rustc}; do
+        if std_for "$1" && std_for "$(uname -m)-unknown-linux-gnu"; then return; fi
+    done
+    rustc=''
+}
+std_for() { # TARGET
+    ls "$("$rustc" --print target-libdir --target "$1" 2>/dev/null)"/libstd-*.rlib >/dev/null 2>&1
 }
