@@ -18,7 +18,8 @@ use crate::tape;
 use std::collections::BTreeMap;
 use std::fmt::Write;
 
-const MOST_BYTES: usize = 1_000_000;
+/// What a replay has room for.
+const MOST_BYTES: usize = 1_048_576;
 
 /// The stored kinds, and what writes each.
 const KINDS: &[(&str, fn(&mut List))] = &[
