@@ -44,7 +44,7 @@ fn take_piece(
     let mut written = 0;
     while at < piece.len() {
         let room = make_room(out, written);
-        let fed = tape::feed(piece, at, kept, held, out, room);
+        let fed = answering::feed(piece, at, kept, held, out, room);
         at = fed.at;
         held = fed.kept;
         written = fed.written;
@@ -102,7 +102,7 @@ fn run(kept: &mut [u8; tape::MOST_KEPT], out: &mut [u8; GATHERED]) {
         return;
     }
     let line = &kept[..];
-    let end = tape::answer_line(&line[0..n], out, 0);
+    let end = answering::answer_line(&line[0..n], out, 0);
     let all = &out[..];
     io::write_all(STDOUT_FILENO, &all[0..end]);
 }

@@ -1,13 +1,11 @@
-// A book of lookups in u16 words: whether it reads, where its lookups begin, and where a lookup's parts stand.
-// The words are walked once, by `index_of`. `find_in` is then one look into the table of starts, and a few words of the lookup:
+// A book of lookups in u16 words: its types and definitions, and where a lookup's parts stand.
+// The words are walked once, by `reading::index_of`. `find_in` is then one look into the table of starts, and a few words of the lookup:
 // its head, and for a chain its four numbers.
 ghost use mathlib.Core.Path.{_≡_};
 ghost use Prim.Native.Nat.{_≤_};
 ghost use lib.ListN.{length};
-ghost use Rattle.book.specs.Book.{mostSide, readBook, isRead};
-ghost use Rattle.book.specs.Places.{countedAt, oneAt, manyAt, chainAt, kindAt, entryAt, missing, sizeAt, indexOf, noIndex, foundIn, widened};
-
-pub const WORDS: usize = 4096;
+ghost use Rattle.book.specs.Book.{mostSide};
+ghost use Rattle.book.specs.Places.{countedAt, oneAt, manyAt, chainAt, kindAt, entryAt, missing, sizeAt, foundIn, widened};
 
 pub const LOOKUPS: usize = 256;
 
@@ -55,54 +53,6 @@ pub struct Index {
     pub starts: [u16; LOOKUPS],
 }
 
-// Whether a book reads: where it doesn't, refusal 11.
-pub fn reads(words: &[u16]) -> bool
-    ensures { λ r. ⌜ r ≡ isRead (readBook (now (words .entry))) ⌝ }
-{
-    let i = index_of(words);
-    i.reads
-}
-
-// The book read once, from its first word to its last.
-pub fn index_of(words: &[u16]) -> Index
-    ensures { λ r. ⌜ r ≡ indexOf (now (words .entry)) ⌝ }
-{
-    if WORDS < words.len() {
-        return nothing();
-    }
-    let mut starts = [0u16; LOOKUPS];
-    let mut n = 0;
-    let mut at = 0;
-    while at < words.len() {
-        if n == LOOKUPS {
-            return nothing();
-        }
-        let size = size_at(words, at);
-        if size == 0 {
-            return nothing();
-        }
-        starts[n] = at as u16;
-        n += 1;
-        at += size;
-    }
-    Index {
-        reads: true,
-        count: n,
-        starts: starts,
-    }
-}
-
-// The index of a book that doesn't read.
-fn nothing() -> Index
-    ensures { λ r. ⌜ r ≡ noIndex ⌝ }
-{
-    Index {
-        reads: false,
-        count: 0,
-        starts: [0u16; LOOKUPS],
-    }
-}
-
 // Lookup k of an indexed book, for a caller that lends the index's table rather than copying it.
 pub fn find_in(words: &[u16], starts: &[u16; LOOKUPS], count: usize, k: usize) -> Entry
     ensures { λ r. ⌜ r ≡ foundIn (now (words .entry)) (now (starts .entry)) count k ⌝ }
@@ -124,7 +74,7 @@ fn wide(x: u16) -> usize
 }
 
 // How many words the lookup that begins at `at` takes; 0 where none does.
-fn size_at(words: &[u16], at: usize) -> usize
+pub fn size_at(words: &[u16], at: usize) -> usize
     ensures { λ r. ⌜ r ≡ sizeAt (now (words .entry)) at ⌝ }
 {
     let e = entry_at(words, at);

@@ -33,7 +33,7 @@ pub struct Ran {
 pub extern "C" fn cb_book_reads(book: &[u16]) -> bool
     ensures { λ r. ⌜ r ≡ isRead (readBook (now (book .entry))) ⌝ }
 {
-    book::reads(book)
+    reading::reads(book)
 }
 
 #[no_mangle]

@@ -264,7 +264,7 @@ fn tell_frame(
 // The tape's own answer, without its 0A, and an empty line.
 fn tell_answer(frame: &[u8], text: &mut [u8; ROOM]) {
     let mut out = [0u8; tape::MOST_ANSWER];
-    let end = tape::answer_line(frame, &mut out, 0);
+    let end = answering::answer_line(frame, &mut out, 0);
     let all = &out[..];
     answer::on_tape(text, &all[0..end]);
     words::end(text, 0);
@@ -275,7 +275,7 @@ fn tell_line(frame: &[u8], lines: u64) {
     let mut values = [0u32; frame::MOST_VALUES];
     let mut done = [0u32; frame::ROW];
     let mut coming = [0u32; frame::ROW];
-    match frame::decode(frame, &mut values, &mut done, &mut coming) {
+    match decoding::decode(frame, &mut values, &mut done, &mut coming) {
         Decoded::NoFrame => head::no_frame(&mut text, lines, wording::why_none(frame)),
         Decoded::Frame(h) => tell_frame(&mut text, lines, h, &values, &done, &coming),
     }

@@ -160,7 +160,7 @@ fn why_value(sign: Sign, id: u32) -> MatchReason
 }
 
 // Which rule decides whether the glyph may match.
-pub fn why_match(m: Matcher, sign: Sign, syllable: u8, g: Glyph) -> MatchReason
+fn why_match(m: Matcher, sign: Sign, syllable: u8, g: Glyph) -> MatchReason
     ensures { λ r. ⌜ r ≡ matchReason m sign syllable g ⌝ }
 {
     if g.mask & m.mask == 0 {
@@ -175,7 +175,7 @@ pub fn why_match(m: Matcher, sign: Sign, syllable: u8, g: Glyph) -> MatchReason
 // ---- a glyph
 
 // What a walk sees of a glyph.
-pub fn see(m: Matcher, sign: Sign, syllable: u8, sets: &[u16], g: Glyph) -> Seen
+fn see(m: Matcher, sign: Sign, syllable: u8, sets: &[u16], g: Glyph) -> Seen
     ensures { λ r. ⌜ r ≡ seenOf m sign syllable (now (sets .entry)) g ⌝ }
 {
     Seen {
@@ -188,7 +188,7 @@ pub fn see(m: Matcher, sign: Sign, syllable: u8, sets: &[u16], g: Glyph) -> Seen
 }
 
 // What the ligature rule says of a later glyph. The base is searched for where this glyph needs it.
-pub fn join(first: Glyph, this: Glyph, searched: &[u32], m: Matcher, sets: &[u16]) -> Joined
+fn join(first: Glyph, this: Glyph, searched: &[u32], m: Matcher, sets: &[u16]) -> Joined
     ensures { λ r. ⌜ r ≡ joinedOf first this (glyphsOf (now (searched .entry))) m (now (sets .entry)) ⌝ }
 {
     let base = ligature::look_for_base(Ligbase::NotChecked, first, this, searched, m, sets);
@@ -224,7 +224,7 @@ fn taken_if(joins: bool) -> Turn
 }
 
 // What a verdict makes of the match, where the ligature rule is asked of glyphs that match.
-pub fn turn_of(verdict: Verdict, joins: bool) -> Turn
+fn turn_of(verdict: Verdict, joins: bool) -> Turn
     ensures { λ r. ⌜ r ≡ turnBy verdict joins ⌝ }
 {
     match verdict {

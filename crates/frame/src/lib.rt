@@ -1,17 +1,12 @@
-// A line of the bench tape as a frame or none: digits, numbers, the frame's parts.
+// A frame of the bench tape: its types and definitions, and its parts as they stand in its bytes.
 use verdict::Settings;
 use verdict::Table;
 ghost use mathlib.Core.Path.{_≡_};
-ghost use mathlib.Core.Bool.{true};
 ghost use Prim.Native.Nat.{_+_, _*_, _≤_};
 ghost use lib.ListN.{length, getD};
-ghost use Rattle.frame.specs.Digits.{digit, spells, bytesOf};
-ghost use Rattle.frame.specs.Frame.{halfAt, wordAt, wordsAt, opens, kindOf, settingsOf, valueCount, doneCount, comingCount, isWhole, frameIn, whole, readBytes, frameOf};
-ghost use Rattle.frame.specs.Decoding.{headOf, Decodes};
+ghost use Rattle.frame.specs.Frame.{halfAt, wordAt, wordsAt, opens, kindOf, settingsOf, valueCount, doneCount, comingCount, isWhole, frameIn};
+ghost use Rattle.frame.specs.Decoding.{headOf};
 ghost use Rattle.frame.specs.Put.{put};
-
-// What a byte that is no digit stands for.
-const NO_DIGIT: u8 = 16;
 
 // Values, and records in each row, at most.
 pub const MOST_VALUES: usize = 64;
@@ -49,59 +44,6 @@ pub enum Decoded {
     NoFrame,
 }
 
-// ---- digits
-
-fn digit(b: u8) -> u8
-    ensures { λ r. ⌜ r ≡ digit b ⌝ }
-{
-    if b < b'0' {
-        return NO_DIGIT;
-    }
-    if b <= b'9' {
-        return b - b'0';
-    }
-    if b < b'A' {
-        return NO_DIGIT;
-    }
-    if b <= b'F' {
-        return b - 55;
-    }
-    if b < b'a' {
-        return NO_DIGIT;
-    }
-    if b <= b'f' {
-        return b - 87;
-    }
-    NO_DIGIT
-}
-
-// The bytes that a line spells, from the front of `out`; false where it spells none.
-fn unhex(line: &[u8], out: &mut [u8]) -> bool
-    requires { ⌜ length (now line) ≤ 2 * length (now out) ⌝ }
-    ensures { λ r. ⌜ r ≡ spells (now (line .entry)) ⌝ }
-    ensures { λ r. ⌜ (r ≡ true → now (out .exit) ≡ put (now (out .entry)) 0 (bytesOf (now (line .entry)))) ⌝ }
-{
-    if line.len() % 2 != 0 {
-        return false;
-    }
-    let pairs = line.len() / 2;
-    let mut i = 0;
-    while i < pairs {
-        let k = 2 * i;
-        let high = digit(line[k]);
-        let low = digit(line[k + 1]);
-        if NO_DIGIT <= high {
-            return false;
-        }
-        if NO_DIGIT <= low {
-            return false;
-        }
-        out[i] = high * 16 + low;
-        i += 1;
-    }
-    true
-}
-
 // ---- numbers, big-endian; what stands past the end counts as 0. Places are far below the largest number, so that no sum wraps.
 
 fn byte_at(b: &[u8], at: usize) -> u8
@@ -129,7 +71,7 @@ fn word_at(b: &[u8], at: usize) -> u32
 }
 
 // The n words of b from `at` on, from the front of `out`.
-fn fill(b: &[u8], at: usize, n: usize, out: &mut [u32])
+pub fn fill(b: &[u8], at: usize, n: usize, out: &mut [u32])
     requires { ⌜ (at + 4 * n ≤ 65000) × (n ≤ length (now out)) ⌝ }
     ensures { λ _. ⌜ now (out .exit) ≡ put (now (out .entry)) 0 (wordsAt n at (now (b .entry))) ⌝ }
 {
@@ -152,7 +94,7 @@ fn opens(b: &[u8], name: &[u8; 4]) -> bool
         & (byte_at(b, 3) == name[3])
 }
 
-fn kind_of(b: &[u8]) -> Kind
+pub fn kind_of(b: &[u8]) -> Kind
     ensures { λ r. ⌜ r ≡ kindOf (now (b .entry)) ⌝ }
 {
     if opens(b, b"GSUB") {
@@ -196,7 +138,7 @@ fn coming_count(b: &[u8]) -> u16
 }
 
 // No other settings bits, the limits, and no byte too few or too many.
-fn is_whole(b: &[u8]) -> bool
+pub fn is_whole(b: &[u8]) -> bool
     ensures { λ r. ⌜ r ≡ isWhole (now (b .entry)) ⌝ }
 {
     let v = value_count(b) as usize;
@@ -209,7 +151,7 @@ fn is_whole(b: &[u8]) -> bool
         & (b.len() == end)
 }
 
-fn head_of(table: Table, b: &[u8]) -> Head
+pub fn head_of(table: Table, b: &[u8]) -> Head
     ensures { λ r. ⌜ r ≡ headOf (frameIn table (now (b .entry))) ⌝ }
 {
     Head {
@@ -221,66 +163,4 @@ fn head_of(table: Table, b: &[u8]) -> Head
         done: glyph::WORDS * done_count(b) as usize,
         coming: glyph::WORDS * coming_count(b) as usize,
     }
-}
-
-// ---- the frame
-
-// The frame of a table that bytes are, its rows from the front of the slices; what stands past them stays.
-fn read_whole(
-    table: Table,
-    b: &[u8],
-    values: &mut [u32; MOST_VALUES],
-    done: &mut [u32; ROW],
-    coming: &mut [u32; ROW],
-) -> Decoded
-    ensures { λ r. ⌜ Decodes (whole table (now (b .entry))) r (now (values .entry)) (now (values .exit)) (now (done .entry)) (now (done .exit)) (now (coming .entry)) (now (coming .exit)) ⌝ }
-{
-    if !is_whole(b) {
-        return Decoded::NoFrame;
-    }
-    let head = head_of(table, b);
-    let n = head.values;
-    let d = head.done;
-    let c = head.coming;
-    let from = 20 + 4 * n;
-    fill(b, 16, n, values);
-    fill(b, from, d, done);
-    fill(b, from + 4 * d, c, coming);
-    Decoded::Frame(head)
-}
-
-fn read_bytes(
-    b: &[u8],
-    values: &mut [u32; MOST_VALUES],
-    done: &mut [u32; ROW],
-    coming: &mut [u32; ROW],
-) -> Decoded
-    ensures { λ r. ⌜ Decodes (readBytes (now (b .entry))) r (now (values .entry)) (now (values .exit)) (now (done .entry)) (now (done .exit)) (now (coming .entry)) (now (coming .exit)) ⌝ }
-{
-    match kind_of(b) {
-        Kind::Gsub => read_whole(Table::Gsub, b, values, done, coming),
-        Kind::Gpos => read_whole(Table::Gpos, b, values, done, coming),
-        Kind::Neither => Decoded::NoFrame,
-    }
-}
-
-// The frame that a line is, given without its 0A, or none. Its lists are stored from the front of the slices, and what stands
-// past them stays; for no frame all stays.
-pub fn decode(
-    line: &[u8],
-    values: &mut [u32; MOST_VALUES],
-    done: &mut [u32; ROW],
-    coming: &mut [u32; ROW],
-) -> Decoded
-    ensures { λ r. ⌜ Decodes (frameOf (now (line .entry))) r (now (values .entry)) (now (values .exit)) (now (done .entry)) (now (done .exit)) (now (coming .entry)) (now (coming .exit)) ⌝ }
-{
-    if MOST_DIGITS < line.len() {
-        return Decoded::NoFrame;
-    }
-    let n = line.len() / 2;
-    let mut bytes = [0u8; MOST_BYTES];
-    if !unhex(line, &mut bytes) {
-        return Decoded::NoFrame;
-    }
-    read_bytes(&bytes[0..n], values, done, coming)
 }

@@ -80,7 +80,7 @@ pub fn run(
         Checked::Refused(why) => return refuse(why),
         Checked::Accepted => {}
     }
-    let index = book::index_of(book);
+    let index = reading::index_of(book);
     let reads = index.reads;
     if !reads {
         return refuse(Refusal::Book);

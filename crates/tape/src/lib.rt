@@ -1,11 +1,7 @@
-// The bench tape: an answer is digits, and each line of a tape is answered.
-use frame::Decoded;
-use frame::Head;
+// The bench tape: its types and definitions, and an answer's digits.
 use matching::InputAnswer;
 use matching::InputMatch;
-use matching::Lookup;
 use matching::Refusal;
-use verdict::Test;
 ghost use mathlib.Core.Path.{_≡_};
 ghost use mathlib.Core.List.{[], _∷_};
 ghost use Prim.Native.Nat.{_+_, _-_, _*_, _≤_, _<_, min};
@@ -13,13 +9,9 @@ ghost use lib.ListN.{length, take, drop};
 ghost use Rattle.matching.specs.Answers.{refusalNumber, inputReply};
 ghost use Rattle.matching.specs.Take.{slots};
 ghost use Rattle.frame.specs.Frame.{mostRecords};
-ghost use Rattle.frame.specs.Decoding.{Bounded};
 ghost use Rattle.frame.specs.Line.{capital, digitsOf, half};
 ghost use Rattle.frame.specs.Put.{put, Puts};
-ghost use Rattle.tape.specs.Answer.{answerLine};
-ghost use Rattle.tape.specs.Asking.{asked};
 ghost use Rattle.tape.specs.Line.{mostAnswer, newline, halves, matchedBytes, answerBytes, ended};
-ghost use Rattle.tape.specs.Feeding.{mostKept, lineAfter, answerAt, taken, Feeds};
 
 // The longest answer: 00, end, total and count, a position for each record of a row, and 0A.
 pub const MOST_ANSWER: usize = 13 + 4 * frame::MOST_RECORDS;
@@ -32,9 +24,6 @@ const SLOTS: usize = matching::MAX_CONTEXT_LENGTH;
 
 // What ends a line.
 pub const NEWLINE: u8 = 10;
-
-// What a line that isn't a frame is answered.
-const NO_FRAME: u8 = 255;
 
 // How far a tape is read: the place in the piece at hand, the bytes kept of the line so far, and the bytes of answers so far.
 pub struct Fed {
@@ -86,7 +75,7 @@ fn put_newline(out: &mut [u8], at: usize) -> usize
 }
 
 // A number alone.
-fn put_number(out: &mut [u8], at: usize, x: u8) -> usize
+pub fn put_number(out: &mut [u8], at: usize, x: u8) -> usize
     requires { ⌜ at + 3 ≤ length (now out) ⌝ }
     ensures { λ r. ⌜ Puts (now (out .entry)) at (ended (x ∷ [])) (now (out .exit)) r ⌝ }
 {
@@ -160,7 +149,7 @@ fn counted(count: usize) -> usize
 }
 
 // What a match answers, and where it ends.
-fn put_answer(out: &mut [u8], at: usize, m: InputMatch) -> usize
+pub fn put_answer(out: &mut [u8], at: usize, m: InputMatch) -> usize
     requires { ⌜ at + mostAnswer ≤ length (now out) ⌝ }
     ensures { λ r. ⌜ Puts (now (out .entry)) at (ended (answerBytes (inputReply m))) (now (out .exit)) r ⌝ }
     ensures { λ r. ⌜ r ≤ at + mostAnswer ⌝ }
@@ -173,120 +162,5 @@ fn put_answer(out: &mut [u8], at: usize, m: InputMatch) -> usize
         InputAnswer::Refused(why) => put_number(out, at, refusal_number(why)),
         InputAnswer::Lost(extent) => put_extent(out, at, extent),
         InputAnswer::Ligature => put_number(out, at, 5),
-    }
-}
-
-// ---- the answer to a line
-
-// What input matching says of a frame, whose lists stand at the front of the slices. There are no mark sets.
-fn ask(
-    h: Head,
-    values: &[u32; frame::MOST_VALUES],
-    done: &[u32; frame::ROW],
-    coming: &[u32; frame::ROW],
-) -> InputMatch
-    requires { ⌜ Bounded h ⌝ }
-    ensures { λ r. ⌜ r ≡ asked h (take (h .values) (now (values .entry))) (take (h .done) (now (done .entry))) (take (h .coming) (now (coming .entry))) ⌝ }
-{
-    let n = h.values;
-    let d = h.done;
-    let c = h.coming;
-    let settings = h.settings;
-    let lookup = Lookup {
-        settings,
-        mask: h.mask,
-        props: h.props,
-    };
-    let sets = [0u16; 0];
-    let asked = &values[..];
-    let before = &done[..];
-    let text = &coming[..];
-    calls::match_input(
-        &before[0..d],
-        d / glyph::WORDS,
-        &text[0..c],
-        c / glyph::WORDS,
-        h.cursor,
-        lookup,
-        &sets,
-        Test::Equal,
-        &asked[0..n],
-    )
-}
-
-// The answer to a line, which is given without its 0A, and where it ends.
-pub fn answer_line(line: &[u8], out: &mut [u8], at: usize) -> usize
-    requires { ⌜ at + mostAnswer ≤ length (now out) ⌝ }
-    ensures { λ r. ⌜ Puts (now (out .entry)) at (answerLine (now (line .entry))) (now (out .exit)) r ⌝ }
-    ensures { λ r. ⌜ r ≤ at + mostAnswer ⌝ }
-{
-    let mut values = [0u32; frame::MOST_VALUES];
-    let mut done = [0u32; frame::ROW];
-    let mut coming = [0u32; frame::ROW];
-    match frame::decode(line, &mut values, &mut done, &mut coming) {
-        Decoded::NoFrame => put_number(out, at, NO_FRAME),
-        Decoded::Frame(h) => {
-            let m = ask(h, &values, &done, &coming);
-            put_answer(out, at, m)
-        }
-    }
-}
-
-// ---- a tape in pieces
-
-// One byte of the tape: it ends the line, which is answered, or is kept, or only makes a long line longer.
-fn take_byte(kept: &mut [u8], n: usize, out: &mut [u8], m: usize, b: u8) -> Taken
-    requires { ⌜ (n ≤ mostKept) × (length (now kept) ≡ mostKept) × (m + mostAnswer ≤ length (now out)) ⌝ }
-    ensures { λ r. ⌜ take (r .kept) (now (kept .exit)) ≡ lineAfter (take n (now (kept .entry))) b ⌝ }
-    ensures { λ r. ⌜ Puts (now (out .entry)) m (answerAt (take n (now (kept .entry))) b) (now (out .exit)) (r .written) ⌝ }
-    ensures { λ r. ⌜ (r .kept ≤ mostKept) × (r .written ≤ length (now (out .entry))) ⌝ }
-{
-    if b == NEWLINE {
-        let end = answer_line(&kept[0..n], out, m);
-        return Taken {
-            kept: 0,
-            written: end,
-        };
-    }
-    if n < MOST_KEPT {
-        kept[n] = b;
-        return Taken {
-            kept: n + 1,
-            written: m,
-        };
-    }
-    Taken {
-        kept: n,
-        written: m,
-    }
-}
-
-// A piece of the tape from a place on, until it ends or `out` has no room for one more answer.
-pub fn feed(piece: &[u8], from: usize, kept: &mut [u8], n: usize, out: &mut [u8], m: usize) -> Fed
-    requires { ⌜ (from < length (now piece)) × (n ≤ mostKept) × (length (now kept) ≡ mostKept) × (m + mostAnswer ≤ length (now out)) ⌝ }
-    ensures { λ r. ⌜ Feeds (taken (length (now (out .entry)) - m) (take n (now (kept .entry))) (drop from (now (piece .entry)))) from (take n (now (kept .entry))) (now (out .entry)) m (r .at) (take (r .kept) (now (kept .exit))) (now (out .exit)) (r .written) ⌝ }
-    ensures { λ r. ⌜ (from < r .at) × (r .at ≤ length (now (piece .entry))) × (r .kept ≤ mostKept) × (r .written ≤ length (now (out .entry))) ⌝ }
-    ensures { λ r. ⌜ (r .at < length (now (piece .entry)) → length (now (out .entry)) < r .written + mostAnswer) ⌝ }
-{
-    let mut at = from;
-    let mut held = n;
-    let mut written = m;
-    while at < piece.len() {
-        if out.len() - written < MOST_ANSWER {
-            return Fed {
-                at,
-                kept: held,
-                written,
-            };
-        }
-        let t = take_byte(kept, held, out, written, piece[at]);
-        held = t.kept;
-        written = t.written;
-        at += 1;
-    }
-    Fed {
-        at,
-        kept: held,
-        written,
     }
 }
