@@ -2,13 +2,14 @@
 //! match and a run, the original's and ours, in one program; then the tape, of
 //! which each side is a process.
 //!
-//! A walk goes over 1,024 glyphs, one of which it starts from. A round lets one
-//! side walk some times and then the other, and the rounds change which is
-//! first; the best and the median of the rounds are printed. The same rows are
-//! walked over and over, so they are warm: in a cache, every branch seen before.
-use crate::draw;
+//! A round lets one side do it some times and then the other, and the rounds
+//! change which is first; the best and the median of the rounds are printed. The
+//! same rows are used over and over, so they are warm: in a cache, every branch
+//! seen before. Where it is said, rows are cold.
+mod walks;
+
 use crate::matches::Case;
-use crate::ours::{self, CMatched, Sign};
+use crate::ours::{self, CMatched};
 use crate::random::Random;
 use crate::runs;
 use crate::tape::{lines, program};
@@ -17,8 +18,7 @@ use original::glyphs::Glyph;
 use original::hook::Mode;
 use original::matches::{with_text, Held};
 use original::runs::{Again, Book, Run};
-use original::terms::{Call, Role, Setup, Test};
-use original::walks::{with_row, Row};
+use original::terms::{Call, Setup};
 use std::fs::File;
 use std::hint::black_box;
 use std::process::{Command, Stdio};
@@ -34,58 +34,8 @@ const FRAMES: u64 = 200_000;
 /// A turn of the tape takes a part of a second.
 const TAPE_TURNS: u32 = 21;
 
-/// All glyphs are passed over, but for the last that a walk meets in the
-/// mixture, which stops it.
-struct Text {
-    name: &'static str,
-    props: u32,
-    sets: Vec<u16>,
-    glyph: fn(&mut Random, usize) -> Glyph,
-}
-
 const MARK: Glyph = [9, 1, 0x0000_0108, 0x0101];
-const IGNORABLE: Glyph = [9, 1, 0x0100_0000, 0x0101];
-const IGNORABLE_MARK: Glyph = [9, 1, 0x0100_0108, 0x0101];
-const BASE: Glyph = [9, 1, 0x0000_0002, 0x0101];
 const PLAIN: Glyph = [9, 1, 0, 0x0101];
-
-fn texts() -> [Text; 6] {
-    let others = |n: u16| (0..n).flat_map(|i| [3, 1000 + i]);
-    let all_others: Vec<u16> = others(200).collect();
-    let among_others: Vec<u16> = others(99).chain([3, 9]).chain(others(100)).collect();
-    let in_set_3 = 3 << 16 | 0x10;
-    [
-        Text { name: "marks under flag 8", props: 8, sets: vec![], glyph: |_, _| MARK },
-        Text {
-            name: "marks of another attachment class",
-            props: 0x200,
-            sets: vec![],
-            glyph: |_, _| MARK,
-        },
-        Text {
-            name: "marks outside a set of 200 pairs",
-            props: in_set_3,
-            sets: all_others,
-            glyph: |_, _| MARK,
-        },
-        Text {
-            name: "ignorable marks, 100th of 200 pairs",
-            props: in_set_3,
-            sets: among_others,
-            glyph: |_, _| IGNORABLE_MARK,
-        },
-        Text { name: "default ignorables", props: 0, sets: vec![], glyph: |_, _| IGNORABLE },
-        Text {
-            name: "a mixture that stops at its last",
-            props: 0x202,
-            sets: vec![],
-            glyph: |random, place| match place {
-                0 | 1023 => PLAIN,
-                _ => random.pick(&[MARK, MARK, MARK, IGNORABLE, IGNORABLE, BASE, BASE]),
-            },
-        },
-    ]
-}
 
 /// Nanoseconds a glyph, of each round.
 struct Times(Vec<f64>);
@@ -162,17 +112,8 @@ pub fn run(rounds: u32, place: &str) -> i32 {
     for glyphs in [8, 200] {
         digests(rounds, glyphs);
     }
-    println!("nanoseconds a glyph over {GLYPHS} glyphs, rows warm");
-    for text in texts() {
-        let random = &mut Random::new(SEED);
-        let glyphs: Vec<Glyph> = (0..GLYPHS).map(|place| (text.glyph)(random, place)).collect();
-        let words = draw::words(&glyphs);
-        let setup = Setup { mask: 1, props: text.props, sets: text.sets, ..Setup::default() };
-        with_row(&setup, &glyphs, GLYPHS, 0, |row| {
-            walks(text.name, rounds, row, &ours::Row { setup: &setup, words: &words });
-        });
-    }
-    println!("nanoseconds a match, otherwise the same");
+    walks::run(rounds);
+    println!("nanoseconds a match, rows warm");
     for between in [0, 1, 4] {
         matches(rounds, between);
     }
@@ -414,39 +355,6 @@ fn one_matcher(
         },
         || {
             black_box(ours());
-        },
-    );
-}
-
-/// Forward with the input matcher from the first glyph, backward with the
-/// context matcher from the last; the one they start from isn't tested.
-fn walks(name: &str, rounds: u32, row: &mut Row, lent: &ours::Row) {
-    let value = || black_box(SOUGHT);
-    let sign = || Sign { test: Test::Equal(value()), syllable: 0, spare: 0 };
-    let last = GLYPHS - 1;
-    let ahead = row.bare_forward(Role::Input, 0, SOUGHT);
-    let back = row.bare_backward(Role::Context, last, SOUGHT);
-    assert_eq!((ahead, back), ((false, GLYPHS), (false, 0)), "both walks go over all of {name}");
-    line(
-        &format!("forward, {name}"),
-        rounds,
-        last,
-        || {
-            black_box(row.bare_forward(Role::Input, 0, value()));
-        },
-        || {
-            black_box(lent.forward(Role::Input, GLYPHS, 0, sign()));
-        },
-    );
-    line(
-        &format!("backward, {name}"),
-        rounds,
-        last,
-        || {
-            black_box(row.bare_backward(Role::Context, last, value()));
-        },
-        || {
-            black_box(lent.backward(Role::Context, last, sign()));
         },
     );
 }

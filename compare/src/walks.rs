@@ -2,6 +2,8 @@
 //! and the plain second implementation of the paper. Calls that the paper
 //! refuses are compared with the paper alone, since the original has no
 //! refusals.
+pub mod stretches;
+
 use crate::differences;
 use crate::draw;
 use crate::kinds::Comparison;
@@ -566,6 +568,7 @@ impl Comparison for Asker {
     fn exhaust(&mut self) {
         every_glyph(self);
         every_row(self);
+        stretches::every(self);
     }
 
     fn draw(&mut self, steps: u64, seed: u64) {
@@ -577,6 +580,9 @@ impl Comparison for Asker {
         let plenty = draw::row(random, 1027);
         for _ in 0..steps / 50 {
             damaged(self, random, &plenty);
+        }
+        for _ in 0..steps / 20 {
+            stretches::random(self, random);
         }
     }
 

@@ -23,6 +23,7 @@ use super::{Line, List};
 use crate::ours::{CWalked, Sign};
 use crate::paper;
 use crate::random::Random;
+use crate::walks::stretches::{self, Witness};
 use crate::walks::{self, Case, Way};
 use crate::{differences, draw};
 use original::glyphs::Glyph;
@@ -70,6 +71,10 @@ pub fn write(list: &mut List) {
         list.push(asked.may_match());
     }
     refused(list);
+    for Witness { case, way, role, place } in stretches::witnesses() {
+        let sign = Sign { test: Test::Equal(7), syllable: 0, spare: 0 };
+        list.push(Asked::new(&case, role, place, sign).walk(way));
+    }
     for (walks, on_row) in differences::on_rows() {
         let case = on_row.case();
         let asked = Asked::new(&case, on_row.role, on_row.place, on_row.sign);

@@ -3,6 +3,7 @@ pub mod Calls
 pub mod Means
 pub mod Steps
 pub mod Passing
+pub mod Past
 pub mod Laws
 pub mod Backward
 pub mod Parts

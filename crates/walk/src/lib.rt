@@ -3,7 +3,8 @@ use verdict::Matcher;
 use verdict::Sign;
 use verdict::Verdict;
 ghost use mathlib.Core.Path.{_≡_};
-ghost use Prim.Native.Nat.{_-_, _≤_, max};
+ghost use mathlib.Core.Bool.{true};
+ghost use Prim.Native.Nat.{_+_, _-_, _≤_, _<_, max};
 ghost use lib.ListN.{length};
 ghost use Rattle.glyph.specs.Glyph.{glyphsOf};
 ghost use Rattle.verdict.specs.Verdict.{judgeAt};
@@ -22,6 +23,9 @@ pub enum Walked {
     Refused,
 }
 
+// A walk over so many glyphs is long.
+const FAR: usize = 16;
+
 // From a place of a row, of which the first len glyphs count, to the next glyph that isn't passed over.
 pub fn forward(
     row: &[u32],
@@ -37,7 +41,12 @@ pub fn forward(
     if is_bad_walk(row, len, place, sets) {
         return Walked::Refused;
     }
-    forward_from(row, len, place + 1, m, sign, syllable, sets)
+    let next = place + 1;
+    if is_long(row, len, next, m.props) {
+        let left = stretch::left_after(row, len, len - next, false, m.props, sets);
+        return forward_from(row, len, len - left, m, sign, syllable, sets);
+    }
+    forward_from(row, len, next, m, sign, syllable, sets)
 }
 
 // Back from a place of a row, to the glyph before it that isn't passed over.
@@ -54,6 +63,11 @@ pub fn backward(
     if is_bad_walk(row, glyph::count(row), place, sets) {
         return Walked::Refused;
     }
+    if is_long_back(row, place, m.props) {
+        let part = glyph::first(row, place);
+        let left = stretch::left_after(part, place, place, true, m.props, own(sets));
+        return backward_from(row, left, m, sign, syllable, sets);
+    }
     backward_from(row, place, m, sign, syllable, sets)
 }
 
@@ -62,6 +76,35 @@ fn is_bad_walk(row: &[u32], len: usize, place: usize, sets: &[u16]) -> bool
     ensures { λ r. ⌜ r ≡ badWalk (now (row .entry)) len place (now (sets .entry)) ⌝ }
 {
     glyph::is_ill_shaped(row) | (glyph::count(row) < len) | (len < place) | glyph::is_odd(sets)
+}
+
+// Whether a walk may well be long: it has FAR glyphs before it, and the last of them could be passed over. It decides the way, not the answer.
+fn is_long(row: &[u32], len: usize, next: usize, asked: u32) -> bool
+    requires { ⌜ (len ≤ length (glyphsOf (now row))) × (next ≤ len + 1) ⌝ }
+    ensures { λ r. ⌜ (r ≡ true → next < len) ⌝ }
+{
+    let p = next + (FAR - 1);
+    if len <= p {
+        return false;
+    }
+    stretch::may_pass(row, p, asked)
+}
+
+fn is_long_back(row: &[u32], place: usize, asked: u32) -> bool
+    requires { ⌜ place ≤ length (glyphsOf (now row)) ⌝ }
+{
+    if place < FAR {
+        return false;
+    }
+    stretch::may_pass(row, place - FAR, asked)
+}
+
+// The same sets. A callee takes a slice from where it stands in memory; one made for it, where it is called, spares the short walks two stores.
+fn own(sets: &[u16]) -> &[u16]
+    ensures { λ r. ⌜ now r ≡ now (sets .entry) ⌝ }
+{
+    let n = sets.len();
+    &sets[0..n]
 }
 
 // The forward walk, given the next place to test, so that it can begin before the first glyph of a part of a row.

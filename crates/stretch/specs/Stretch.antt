@@ -1,0 +1,80 @@
+-- The code's side: which places of a row a stretch crosses, and that each of them is skip Yes. Forward the places left to test are the last ones before len,
+-- backward the first ones of the row; either way a number says how many are left.
+use Prim.Native.Nat.{ℕ, _+_, _-_, _≤_, _<_}
+use mathlib.Core.List.{List}
+use mathlib.Core.Path.{_≡_, refl, ap, _∙_}
+use mathlib.Core.Logic.{_⊎_, inl, inr, ⊎-elim}
+use mathlib.Core.Bool.{Bool, true, false, not, cond, _&&_, _||_}
+use native.Mathlib.Omega.{arith}
+use borrow.Author.Tests.{ltb-true, ltb-false}
+use lib.Dec.{eqb, ltb}
+use lib.ListN.{getD}
+use Rattle.glyph.specs.declared.Glyph.{Glyph}
+use Rattle.glyph.specs.Glyph.{blank}
+use Rattle.verdict.specs.Verdict.{ignoredClass, isMark, usesSet, classAsked, otherMark}
+
+-- skip Yes, of which a matcher's props alone decide; and the places of a list of glyphs that are
+abbrev pub yesOf : ℕ → List ℕ → Glyph → Bool
+yesOf asked sets g = ignoredClass asked (g .props) || otherMark asked sets (g .props) (g .id)
+
+abbrev pub yesAt : ℕ → List ℕ → List Glyph → ℕ → Bool
+yesAt asked sets gs i = yesOf asked sets (getD gs i blank)
+
+-- a glyph that may be: of an ignored class, or a mark where a set or a class is asked
+abbrev pub mayPass : ℕ → ℕ → Bool
+mayPass asked props = ignoredClass asked props || (isMark props && (usesSet asked || not (eqb (classAsked asked) 0)))
+
+-- every place from a on and before b
+abbrev pub Yes : (ℕ → Bool) → ℕ → ℕ → Type 0
+Yes y a b = (i : ℕ) → a ≤ i → i < b → y i ≡ true
+
+-- every place that is tested while the number left falls from `left` to `rest`
+abbrev pub Crossed : (ℕ → Bool) → Bool → ℕ → ℕ → ℕ → Type 0
+Crossed y back len left rest = Yes y (cond back rest (len - left)) (cond back left (len - rest))
+
+-- the lowest of the next n places
+abbrev pub lowestOf : Bool → ℕ → ℕ → ℕ → ℕ
+lowestOf back len left n = cond back (left - n) (len - left)
+
+-- ---- laws
+
+pub before : (i b : ℕ) → (i < b) ⊎ (b ≤ i)
+before i b = by (ltb i b) refl
+  where
+    by : (t : Bool) → ltb i b ≡ t → (i < b) ⊎ (b ≤ i)
+    by true e = inl (ltb-true i b e)
+    by false e = inr (ltb-false i b e)
+
+module _ (y : ℕ → Bool) where
+  yes-join : (a b c : ℕ) → Yes y a b → Yes y b c → Yes y a c
+  yes-join a b c f g i l h = ⊎-elim (λ e. f i l e) (λ e. g i e h) (before i b)
+
+  pub crossed-none : (back : Bool) (len left : ℕ) → Crossed y back len left left
+  crossed-none true len left i l h = absurd (omega arith)
+  crossed-none false len left i l h = absurd (omega arith)
+
+  pub crossed-join : (back : Bool) (len a b c : ℕ) → Crossed y back len a b → Crossed y back len b c → Crossed y back len a c
+  crossed-join true len a b c f g = yes-join c b a g f
+  crossed-join false len a b c f g = yes-join (len - a) (len - b) (len - c) f g
+
+  -- the next n places
+  pub crossed-next : (back : Bool) (len left n : ℕ) → n ≤ left → left ≤ len → Yes y (lowestOf back len left n) (lowestOf back len left n + n)
+      → Crossed y back len left (left - n)
+  crossed-next true len left n w v h i l g = h i l (omega arith)
+  crossed-next false len left n w v h i l g = h i l (omega arith)
+
+  pub crossed-more : (back : Bool) (len left rest n : ℕ) → n ≤ rest → rest ≤ len
+      → Yes y (lowestOf back len rest n) (lowestOf back len rest n + n) → Crossed y back len left rest → Crossed y back len left (rest - n)
+  crossed-more back len left rest n w v h f =
+      crossed-join back len left rest (rest - n) f (crossed-next back len rest n w v h)
+
+  -- one place
+  pub crossed-one : (back : Bool) (len left rest : ℕ) → 1 ≤ rest → rest ≤ len → (p : ℕ) → p ≡ lowestOf back len rest 1 → y p ≡ true
+      → Crossed y back len left rest → Crossed y back len left (rest - 1)
+  crossed-one back len left rest w v p e t f =
+      crossed-more back len left rest 1 w v (λ i l g. let s : i ≡ p = omega arith in ap y s ∙ t) f
+
+-- the next places stand in the row
+pub lowest-within : (back : Bool) (len left n : ℕ) → n ≤ left → left ≤ len → lowestOf back len left n + n ≤ len
+lowest-within true len left n w v = omega arith
+lowest-within false len left n w v = omega arith

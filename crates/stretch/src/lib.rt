@@ -1,0 +1,212 @@
+// A stretch of glyphs that a walk passes over, seen a block at a time. It is there for speed alone: a walk answers the same without it. What is seen is
+// enough for skip Yes and not needed for it; where a stretch ends the walk goes on glyph by glyph.
+use digest::SetDigest;
+ghost use mathlib.Core.Path.{_≡_};
+ghost use mathlib.Core.Bool.{true};
+ghost use Prim.Native.Nat.{_+_, _*_, _/_, _≤_, _<_};
+ghost use lib.ListN.{length, getD};
+ghost use Rattle.glyph.specs.Glyph.{glyphsOf, blank};
+ghost use Rattle.verdict.specs.Verdict.{ignoredClass};
+ghost use Rattle.stretch.specs.Stretch.{Yes, Crossed, lowestOf, mayPass, yesAt};
+ghost use Rattle.stretch.specs.Blocks.{block, classBy, told, turnedAt, toldAt, Common};
+ghost use Rattle.stretch.specs.Outside.{outsideAt, Admits, Grown};
+
+// Glyphs that are looked at together.
+const BLOCK: usize = 8;
+
+// Whether glyph p could be passed over, for what class it is of: what a walk looks at before it asks for a stretch.
+pub fn may_pass(row: &[u32], p: usize, asked: u32) -> bool
+    requires { ⌜ p < length (glyphsOf (now row)) ⌝ }
+    ensures { λ r. ⌜ r ≡ mayPass asked (getD (glyphsOf (now (row .entry))) p blank .props) ⌝ }
+{
+    let props = glyph::read(row, p).props as u32;
+    if is_ignored(asked, props) {
+        return true;
+    }
+    (props / 8 % 2 == 1) & ((asked / 16 % 2 == 1) | (asked / 256 % 256 != 0))
+}
+
+// Of the places left to test, the last ones before len or, backward, the first ones of the row: how many are left after those that are seen to be
+// skip Yes, for a lookup with these props.
+pub fn left_after(
+    row: &[u32],
+    len: usize,
+    left: usize,
+    back: bool,
+    asked: u32,
+    sets: &[u16],
+) -> usize
+    requires { ⌜ (left ≤ len) × (len ≤ length (glyphsOf (now row))) ⌝ }
+    ensures { λ r. ⌜ (r ≤ left) × Crossed (yesAt asked (now (sets .entry)) (glyphsOf (now (row .entry)))) back len left r ⌝ }
+{
+    // a set is named, and marks aren't ignored as a class
+    if asked / 8 % 4 == 2 {
+        return after_set(row, len, left, back, asked / 65536, sets);
+    }
+    let class = class_asked(asked);
+    after_class(row, len, left, back, asked, class)
+}
+
+// Props of a class that the lookup ignores.
+fn is_ignored(asked: u32, props: u32) -> bool
+    ensures { λ r. ⌜ r ≡ ignoredClass asked props ⌝ }
+{
+    ((props / 2 % 2 == 1) & (asked / 2 % 2 == 1))
+        | ((props / 4 % 2 == 1) & (asked / 4 % 2 == 1))
+        | ((props / 8 % 2 == 1) & (asked / 8 % 2 == 1))
+}
+
+// The attachment class that the lookup goes by, 0 if it goes by none.
+fn class_asked(asked: u32) -> u16
+    ensures { λ r. ⌜ (r ≡ classBy asked) × (r < 256) ⌝ }
+{
+    if asked / 16 % 2 == 1 {
+        0
+    } else {
+        (asked / 256 % 256) as u16
+    }
+}
+
+// The lowest of the next n places.
+fn lowest(len: usize, left: usize, back: bool, n: usize) -> usize
+    requires { ⌜ (n ≤ left) × (left ≤ len) ⌝ }
+    ensures { λ r. ⌜ r ≡ lowestOf back len left n ⌝ }
+{
+    if back { left - n } else { len - left }
+}
+
+// ---- a block at a time, by classes
+
+// With no class asked nothing is turned: the compiler makes a loop of its own of that, in which a glyph takes one instruction less.
+fn after_class(row: &[u32], len: usize, left: usize, back: bool, asked: u32, class: u16) -> usize
+    requires { ⌜ (left ≤ len) × (len ≤ length (glyphsOf (now row))) × (class < 256) ⌝ }
+    ensures { λ r. ⌜ (r ≤ left) × Crossed (toldAt asked class (glyphsOf (now (row .entry)))) back len left r ⌝ }
+{
+    if class == 0 {
+        return after_blocks(row, len, left, back, asked, 0);
+    }
+    after_blocks(row, len, left, back, asked, class)
+}
+
+// How many places are left after the blocks that one look each tells to be skip Yes.
+fn after_blocks(row: &[u32], len: usize, left: usize, back: bool, asked: u32, class: u16) -> usize
+    requires { ⌜ (left ≤ len) × (len ≤ length (glyphsOf (now row))) × (class < 256) ⌝ }
+    ensures { λ r. ⌜ (r ≤ left) × Crossed (toldAt asked class (glyphsOf (now (row .entry)))) back len left r ⌝ }
+{
+    let mut rest = left;
+    while BLOCK <= rest {
+        let p = lowest(len, rest, back, BLOCK);
+        if !is_told(asked, class, shared(row, p, class)) {
+            return rest;
+        }
+        rest -= BLOCK;
+    }
+    rest
+}
+
+// Whether props in which the class asked was turned tell of a glyph that it is skip Yes.
+fn is_told(asked: u32, class: u16, turned: u16) -> bool
+    ensures { λ r. ⌜ r ≡ told asked class turned ⌝ }
+{
+    let x = turned as u32;
+    is_ignored(asked, x) | ((class != 0) & (x / 8 % 2 == 1) & (256 <= x))
+}
+
+// The bits that a block's props have in common, once those of `class` are turned.
+fn shared(row: &[u32], p: usize, class: u16) -> u16
+    requires { ⌜ (p + block ≤ length (glyphsOf (now row))) × (class < 256) ⌝ }
+    ensures { λ r. ⌜ Common (turnedAt class (glyphsOf (now (row .entry)))) r p (p + block) ⌝ }
+{
+    let other = class * 256;
+    let mut all = 65535;
+    let mut k = 0;
+    while k < BLOCK {
+        all = all & (glyph::read(row, p + k).props ^ other);
+        k += 1;
+    }
+    all
+}
+
+// ---- a glyph at a time, by a digest of the set that the lookup names
+
+// A digest is made once the first marks were sought pair by pair: it costs as much as some eight searches, and a mark of the set ends the stretch.
+fn after_set(row: &[u32], len: usize, left: usize, back: bool, set: u32, sets: &[u16]) -> usize
+    requires { ⌜ (left ≤ len) × (len ≤ length (glyphsOf (now row))) ⌝ }
+    ensures { λ r. ⌜ (r ≤ left) × Crossed (outsideAt set (now (sets .entry)) (glyphsOf (now (row .entry)))) back len left r ⌝ }
+{
+    if left < BLOCK {
+        return left;
+    }
+    let least = left - BLOCK;
+    let tried = after_outside(row, len, left, least, back, set, sets, SetDigest::full());
+    if least < tried {
+        return tried;
+    }
+    after_outside(row, len, tried, 0, back, set, sets, digest_of(sets, set))
+}
+
+// How many places are left, `least` or more, after the marks outside the set.
+fn after_outside(
+    row: &[u32],
+    len: usize,
+    left: usize,
+    least: usize,
+    back: bool,
+    set: u32,
+    sets: &[u16],
+    d: SetDigest,
+) -> usize
+    requires { ⌜ (left ≤ len) × (len ≤ length (glyphsOf (now row))) × Admits d (now sets) set ⌝ }
+    ensures { λ r. ⌜ (r ≤ left) × Crossed (outsideAt set (now (sets .entry)) (glyphsOf (now (row .entry)))) back len left r ⌝ }
+{
+    let mut rest = left;
+    while least < rest {
+        let p = lowest(len, rest, back, 1);
+        if !is_outside(row, p, set, sets, d) {
+            return rest;
+        }
+        rest -= 1;
+    }
+    rest
+}
+
+// Whether a glyph is a mark outside the set, where a digest admits each glyph of the set.
+fn is_outside(row: &[u32], p: usize, set: u32, sets: &[u16], d: SetDigest) -> bool
+    requires { ⌜ (p < length (glyphsOf (now row))) × Admits d (now sets) set ⌝ }
+    ensures { λ r. ⌜ r ≡ outsideAt set (now (sets .entry)) (glyphsOf (now (row .entry))) p ⌝ }
+{
+    let g = glyph::read(row, p);
+    if g.props / 8 % 2 != 1 {
+        return false;
+    }
+    if !d.may_have(g.id) {
+        return true;
+    }
+    !glyph::in_set(sets, set, g.id)
+}
+
+// A digest that admits each glyph of a set.
+fn digest_of(sets: &[u16], set: u32) -> SetDigest
+    ensures { λ r. ⌜ Admits r (now (sets .entry)) set ⌝ }
+{
+    let pairs = sets.len() / 2;
+    let mut d = SetDigest::new();
+    let mut k = 0;
+    while k < pairs {
+        d = with_pair(d, sets, k, set);
+        k += 1;
+    }
+    d
+}
+
+// The digest with the glyph of a pair too, if the pair is of the set.
+fn with_pair(d: SetDigest, sets: &[u16], k: usize, set: u32) -> SetDigest
+    requires { ⌜ k < length (now sets) / 2 ⌝ }
+    ensures { λ r. ⌜ Grown d r set (getD (now (sets .entry)) (2 * k) 0) (getD (now (sets .entry)) (2 * k + 1) 0) ⌝ }
+{
+    let i = 2 * k;
+    if sets[i] as u32 != set {
+        return d;
+    }
+    d.add(sets[i + 1] as u32)
+}
