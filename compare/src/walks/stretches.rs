@@ -120,10 +120,10 @@ pub fn witnesses() -> Vec<Witness> {
         // a_digest_is_of_the_other_sets
         forward(0x3_0010, &[3, 9], &[&others(8), &marks(8)]),
         // a_base_is_outside_the_set
-        forward(0x3_0010, &[3, 9], &[&[BASE; 15], &others(1)]),
+        forward(0x3_0010, &[3, 9], &[&[BASE; 15], &others(1)[..]]),
         // a_long_walk_backward_begins_at_the_rows_start
         backward(8, &[], &[&marks(32), &[BASE]]),
-        // a_long_walk_backward_has_half_the_sets
+        // a_long_walk_has_half_the_sets
         backward(0x3_0010, &[3, 8, 3, 9], &[&[FOUND], &marks(16)]),
     ]
 }

@@ -4,11 +4,10 @@
 use Prim.Native.Nat.{ℕ, _+_, _*_, _/_, _%_, _^_, _≤_, _<_}
 use mathlib.Core.List.{List}
 use mathlib.Core.Path.{_≡_, refl, sym, ap, _∙_}
-use mathlib.Core.Logic.{⊎-elim}
 use mathlib.Core.Bool.{Bool, true, false, not, cond, _&&_, _||_, true≢false}
 use native.Mathlib.Omega.{arith}
-use borrow.Author.Tests.{eqb-true, leb-true, le-leb}
-use lib.Dec.{eqb, leb}
+use borrow.Author.Tests.{eqb-true, leb-true, le-leb, ltb-true, ltb-false}
+use lib.Dec.{eqb, ltb, leb}
 use lib.Bits.{bitAnd, bitXor, and-le-l, and-le-r, xor-mod, xor-shr, xor-zero-r, xor-self}
 use lib.ListN.{getD}
 use Rattle.bits.specs.Bits.{bit}
@@ -16,7 +15,7 @@ use Rattle.bits.specs.Laws.{and-left, and-right, and-both, or-left, or-right, a
 use Rattle.glyph.specs.declared.Glyph.{Glyph}
 use Rattle.glyph.specs.Glyph.{blank}
 use Rattle.verdict.specs.Verdict.{ignoredClass, isMark, usesSet, classAsked, classOf, otherMark}
-use Rattle.stretch.specs.Stretch.{yesAt, Yes, before}
+use Rattle.stretch.specs.Stretch.{yesAt, Yes}
 
 -- glyphs a block
 abbrev pub block : ℕ
@@ -64,14 +63,14 @@ module _ (x : ℕ → ℕ) (a b all : ℕ) where
   common-none h i l g = absurd (omega arith)
 
   pub common-more : (s e : ℕ) → s ≡ x b → e ≡ b + 1 → Common x all a b → Common x (bitAnd all s) a e
-  common-more s e f q h i l g =
-      ⊎-elim
-      (λ w. under-left (x i) (h i l w) s)
-      (λ w. let t : i ≡ b = omega arith in last i (ap x t ∙ sym f))
-      (before i b)
+  common-more s e f q h i l g = by (ltb i b) refl
     where
-      last : (i : ℕ) → x i ≡ s → Under (bitAnd all s) (x i)
-      last i t = rw t (under-right s)
+      last : x i ≡ s → Under (bitAnd all s) (x i)
+      last t = rw t (under-right s)
+
+      by : (t : Bool) → ltb i b ≡ t → Under (bitAnd all s) (x i)
+      by true w = under-left (x i) (h i l (ltb-true i b w)) s
+      by false w = let k = ltb-false i b w in let t : i ≡ b = omega arith in last (ap x t ∙ sym f)
 
 -- ---- what common bits tell
 

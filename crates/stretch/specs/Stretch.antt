@@ -2,13 +2,13 @@
 -- backward the first ones of the row; either way a number says how many are left.
 use Prim.Native.Nat.{ℕ, _+_, _-_, _≤_, _<_}
 use mathlib.Core.List.{List}
-use mathlib.Core.Path.{_≡_, refl, ap, _∙_}
-use mathlib.Core.Logic.{_⊎_, inl, inr, ⊎-elim}
+use mathlib.Core.Path.{_≡_, refl, sym, ap, _∙_}
 use mathlib.Core.Bool.{Bool, true, false, not, cond, _&&_, _||_}
 use native.Mathlib.Omega.{arith}
 use borrow.Author.Tests.{ltb-true, ltb-false}
 use lib.Dec.{eqb, ltb}
-use lib.ListN.{getD}
+use lib.ListN.{getD, take}
+use lib.Seq.{getD-take}
 use Rattle.glyph.specs.declared.Glyph.{Glyph}
 use Rattle.glyph.specs.Glyph.{blank}
 use Rattle.verdict.specs.Verdict.{ignoredClass, isMark, usesSet, classAsked, otherMark}
@@ -38,16 +38,13 @@ lowestOf back len left n = cond back (left - n) (len - left)
 
 -- ---- laws
 
-pub before : (i b : ℕ) → (i < b) ⊎ (b ≤ i)
-before i b = by (ltb i b) refl
-  where
-    by : (t : Bool) → ltb i b ≡ t → (i < b) ⊎ (b ≤ i)
-    by true e = inl (ltb-true i b e)
-    by false e = inr (ltb-false i b e)
-
 module _ (y : ℕ → Bool) where
   yes-join : (a b c : ℕ) → Yes y a b → Yes y b c → Yes y a c
-  yes-join a b c f g i l h = ⊎-elim (λ e. f i l e) (λ e. g i e h) (before i b)
+  yes-join a b c f g i l h = by (ltb i b) refl
+    where
+      by : (t : Bool) → ltb i b ≡ t → y i ≡ true
+      by true e = f i l (ltb-true i b e)
+      by false e = g i (ltb-false i b e) h
 
   pub crossed-none : (back : Bool) (len left : ℕ) → Crossed y back len left left
   crossed-none true len left i l h = absurd (omega arith)
@@ -78,3 +75,7 @@ module _ (y : ℕ → Bool) where
 pub lowest-within : (back : Bool) (len left n : ℕ) → n ≤ left → left ≤ len → lowestOf back len left n + n ≤ len
 lowest-within true len left n w v = omega arith
 lowest-within false len left n w v = omega arith
+
+-- what is seen of a row's first glyphs is so of the row
+pub part-yes : (asked : ℕ) (sets : List ℕ) (gs : List Glyph) (n a b : ℕ) → b ≤ n → Yes (yesAt asked sets (take n gs)) a b → Yes (yesAt asked sets gs) a b
+part-yes asked sets gs n a b w h i l g = sym (ap (yesOf asked sets) (getD-take n gs i blank (omega arith))) ∙ h i l g

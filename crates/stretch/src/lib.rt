@@ -1,9 +1,10 @@
 // A stretch of glyphs that a walk passes over, seen a block at a time. It is there for speed alone: a walk answers the same without it. What is seen is
-// enough for skip Yes and not needed for it; where a stretch ends the walk goes on glyph by glyph.
+// enough for skip Yes and not needed for it; where a stretch ends the walk goes on glyph by glyph. A walk is asked for no stretch unless the sixteenth
+// glyph from its place could be passed over.
 use digest::SetDigest;
 ghost use mathlib.Core.Path.{_≡_};
 ghost use mathlib.Core.Bool.{true};
-ghost use Prim.Native.Nat.{_+_, _*_, _/_, _≤_, _<_};
+ghost use Prim.Native.Nat.{_+_, _-_, _*_, _/_, _≤_, _<_};
 ghost use lib.ListN.{length, getD};
 ghost use Rattle.glyph.specs.Glyph.{glyphsOf, blank};
 ghost use Rattle.verdict.specs.Verdict.{ignoredClass};
@@ -14,8 +15,63 @@ ghost use Rattle.stretch.specs.Outside.{outsideAt, Admits, Grown};
 // Glyphs that are looked at together.
 const BLOCK: usize = 8;
 
-// Whether glyph p could be passed over, for what class it is of: what a walk looks at before it asks for a stretch.
-pub fn may_pass(row: &[u32], p: usize, asked: u32) -> bool
+// A walk over so many glyphs is long.
+const FAR: usize = 16;
+
+// The place up to which a forward walk passes over every glyph, as far as is seen; with `next` the next place to test.
+pub fn ahead(row: &[u32], len: usize, next: usize, asked: u32, sets: &[u16]) -> usize
+    requires { ⌜ (len ≤ length (glyphsOf (now row))) × (next ≤ len + 1) ⌝ }
+    ensures { λ r. ⌜ (next ≤ r) × (r - next ≤ len - next) × Yes (yesAt asked (now (sets .entry)) (glyphsOf (now (row .entry)))) next r ⌝ }
+{
+    let far = next + (FAR - 1);
+    if len <= far {
+        return next;
+    }
+    if !may_pass(row, far, asked) {
+        return next;
+    }
+    len
+        - left_after(
+            glyph::first(row, len),
+            len,
+            len - next,
+            false,
+            asked,
+            own(sets),
+        )
+}
+
+// The place down to which a backward walk passes over every glyph, as far as is seen.
+pub fn behind(row: &[u32], place: usize, asked: u32, sets: &[u16]) -> usize
+    requires { ⌜ place ≤ length (glyphsOf (now row)) ⌝ }
+    ensures { λ r. ⌜ (r ≤ place) × Yes (yesAt asked (now (sets .entry)) (glyphsOf (now (row .entry)))) r place ⌝ }
+{
+    if place < FAR {
+        return place;
+    }
+    if !may_pass(row, place - FAR, asked) {
+        return place;
+    }
+    left_after(
+        glyph::first(row, place),
+        place,
+        place,
+        true,
+        asked,
+        own(sets),
+    )
+}
+
+// The same sets. A callee takes a slice from where it stands in memory; one that is made for it, where it is called, spares the short walks two stores.
+fn own(sets: &[u16]) -> &[u16]
+    ensures { λ r. ⌜ now r ≡ now (sets .entry) ⌝ }
+{
+    let n = sets.len();
+    &sets[0..n]
+}
+
+// Whether glyph p could be passed over, for what class it is of: a look that decides the way, not the answer, for most walks are short.
+fn may_pass(row: &[u32], p: usize, asked: u32) -> bool
     requires { ⌜ p < length (glyphsOf (now row)) ⌝ }
     ensures { λ r. ⌜ r ≡ mayPass asked (getD (glyphsOf (now (row .entry))) p blank .props) ⌝ }
 {
@@ -27,15 +83,8 @@ pub fn may_pass(row: &[u32], p: usize, asked: u32) -> bool
 }
 
 // Of the places left to test, the last ones before len or, backward, the first ones of the row: how many are left after those that are seen to be
-// skip Yes, for a lookup with these props.
-pub fn left_after(
-    row: &[u32],
-    len: usize,
-    left: usize,
-    back: bool,
-    asked: u32,
-    sets: &[u16],
-) -> usize
+// skip Yes, for a lookup with these props. Both directions call it, so that the compiler leaves it a function of its own, out of the short walks' way.
+fn left_after(row: &[u32], len: usize, left: usize, back: bool, asked: u32, sets: &[u16]) -> usize
     requires { ⌜ (left ≤ len) × (len ≤ length (glyphsOf (now row))) ⌝ }
     ensures { λ r. ⌜ (r ≤ left) × Crossed (yesAt asked (now (sets .entry)) (glyphsOf (now (row .entry)))) back len left r ⌝ }
 {

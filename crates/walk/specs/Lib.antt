@@ -2,7 +2,6 @@ pub mod Walk
 pub mod Calls
 pub mod Means
 pub mod Steps
-pub mod Passing
 pub mod Past
 pub mod Laws
 pub mod Backward

@@ -3,8 +3,7 @@ use Prim.Native.Nat.{ℕ, zero, suc, _+_, _-_, _≤_, _<_}
 use mathlib.Core.List.{List}
 use mathlib.Core.Path.{_≡_, sym, ap, _∙_}
 use native.Mathlib.Omega.{arith}
-use lib.ListN.{getD, take}
-use lib.Seq.{getD-take}
+use lib.ListN.{getD}
 use Rattle.glyph.specs.declared.Glyph.{Glyph}
 use Rattle.glyph.specs.Glyph.{blank}
 use Rattle.verdict.specs.declared.Matcher.{Matcher}
@@ -13,32 +12,31 @@ use Rattle.verdict.specs.declared.Verdict.{Verdict}
 use Rattle.verdict.specs.declared.Verdict.the-variants.{Skip}
 use Rattle.verdict.specs.Verdict.{skipYes, judgeAt}
 use Rattle.verdict.specs.Laws.{verdict-yes}
-use Rattle.stretch.specs.Stretch.{yesOf, yesAt, Yes}
-use Rattle.walk.specs.Walk.{after, walkFrom, afterBack, walkBack}
-use Rattle.walk.specs.Steps.{walk-on, back-on}
+use Rattle.stretch.specs.Stretch.{yesAt, Yes}
+use Rattle.walk.specs.Walk.{walkFrom, walkBack}
+use Rattle.walk.specs.Steps.{walk-turn, back-turn}
 use Rattle.walk.specs.Means.{Passed}
 
 module _ (v : ℕ → Verdict) where
-  past : (n len next : ℕ) → next + n ≤ len → Passed v next (next + n) → walkFrom v len next ≡ walkFrom v len (next + n)
+  past : (n len next : ℕ) → n ≤ len - next → Passed v next (next + n) → walkFrom v len next ≡ walkFrom v len (next + n)
   past zero len next l h = let s : next ≡ next + 0 = omega arith in ap (walkFrom v len) s
   past (suc n) len next l h =
       let s : next + 1 + n ≡ next + suc n = omega arith in
-      walk-on v len next (omega arith)
-      ∙ ap (λ (r : Verdict). after r next (walkFrom v len (next + 1))) (h next (omega arith) (omega arith))
+      walk-turn v len next (omega arith) Skip (h next (omega arith) (omega arith))
       ∙ past n len (next + 1) (omega arith) (λ k i j. h k (omega arith) (omega arith))
       ∙ ap (walkFrom v len) s
 
-  pub walk-past : (len next later : ℕ) → next ≤ later → later ≤ len → Passed v next later → walkFrom v len next ≡ walkFrom v len later
+  pub walk-past : (len next later : ℕ) → next ≤ later → later - next ≤ len - next → Passed v next later
+      → walkFrom v len next ≡ walkFrom v len later
   walk-past len next later l w h =
       let s : next + (later - next) ≡ later = omega arith in
-      past (later - next) len next (omega arith) (λ k i j. h k i (omega arith)) ∙ ap (walkFrom v len) s
+      past (later - next) len next w (λ k i j. h k i (omega arith)) ∙ ap (walkFrom v len) s
 
   past-back : (n place : ℕ) → n ≤ place → Passed v (place - n) place → walkBack v place ≡ walkBack v (place - n)
   past-back zero place l h = let s : place ≡ place - 0 = omega arith in ap (walkBack v) s
   past-back (suc n) place l h =
       let s : place - 1 - n ≡ place - suc n = omega arith in
-      back-on v place (place - 1) (omega arith)
-      ∙ ap (λ (r : Verdict). afterBack r (place - 1) (walkBack v (place - 1))) (h (place - 1) (omega arith) (omega arith))
+      back-turn v place (place - 1) (omega arith) Skip (h (place - 1) (omega arith) (omega arith))
       ∙ past-back n (place - 1) (omega arith) (λ k i j. h k (omega arith) (omega arith))
       ∙ ap (walkBack v) s
 
@@ -47,11 +45,8 @@ module _ (v : ℕ → Verdict) where
       let s : place - (place - earlier) ≡ earlier = omega arith in
       past-back (place - earlier) place (omega arith) (λ k i j. h k (omega arith) j) ∙ ap (walkBack v) s
 
--- a stretch of places that are skip Yes is passed over, also where they were seen in the row's first glyphs alone
-module _ (m : Matcher) (sign : Sign) (syllable : ℕ) (sets : List ℕ) (gs : List Glyph) (a b : ℕ) where
-  pub stretch-passed : Yes (yesAt (m .props) sets gs) a b → Passed (judgeAt m sign syllable sets gs) a b
-  unfolding skipYes
-  stretch-passed h i l g = verdict-yes m sign syllable sets (getD gs i blank) (h i l g)
-
-  pub part-passed : Yes (yesAt (m .props) sets (take b gs)) a b → Passed (judgeAt m sign syllable sets gs) a b
-  part-passed h = stretch-passed (λ i l g. sym (ap (yesOf (m .props) sets) (getD-take b gs i blank g)) ∙ h i l g)
+-- a stretch of places that are skip Yes is passed over
+pub stretch-passed : (m : Matcher) (sign : Sign) (syllable : ℕ) (sets : List ℕ) (gs : List Glyph) (a b : ℕ) → Yes (yesAt (m .props) sets gs) a b
+    → Passed (judgeAt m sign syllable sets gs) a b
+unfolding skipYes
+stretch-passed m sign syllable sets gs a b h i l g = verdict-yes m sign syllable sets (getD gs i blank) (h i l g)

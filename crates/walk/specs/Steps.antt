@@ -1,6 +1,6 @@
 -- The walks a place at a time: what a turn of the code's loops does, and where they end.
 use Prim.Native.Nat.{ℕ, suc, _+_, _-_, _≤_, _<_}
-use mathlib.Core.Path.{_≡_, ap}
+use mathlib.Core.Path.{_≡_, ap, _∙_}
 use native.Mathlib.Omega.{arith}
 use Rattle.verdict.specs.declared.Verdict.{Verdict}
 use Rattle.walk.specs.declared.Walked.the-variants.{RanOut}
@@ -13,6 +13,10 @@ module _ (v : ℕ → Verdict) (len next : ℕ) where
       let left : len - next ≡ suc (len - (next + 1)) = omega arith in
       ap (λ (n : ℕ). walk v n next) left
 
+  -- a turn whose verdict is r
+  pub walk-turn : next < len → (r : Verdict) → v next ≡ r → walkFrom v len next ≡ after r next (walkFrom v len (next + 1))
+  walk-turn h r e = walk-on h ∙ ap (λ (r : Verdict). after r next (walkFrom v len (next + 1))) e
+
   pub walk-end : len ≤ next → walkFrom v len next ≡ RanOut next
   unfolding walkFrom walk
   walk-end h =
@@ -23,6 +27,9 @@ module _ (v : ℕ → Verdict) (place : ℕ) where
   pub back-on : (p : ℕ) → place ≡ suc p → walkBack v place ≡ afterBack (v p) p (walkBack v p)
   unfolding walkBack
   back-on p e = ap (walkBack v) e
+
+  pub back-turn : (p : ℕ) → place ≡ suc p → (r : Verdict) → v p ≡ r → walkBack v place ≡ afterBack r p (walkBack v p)
+  back-turn p h r e = back-on p h ∙ ap (λ (r : Verdict). afterBack r p (walkBack v p)) e
 
   pub back-end : place ≡ 0 → walkBack v place ≡ RanOut 0
   unfolding walkBack

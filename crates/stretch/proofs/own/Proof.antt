@@ -5,8 +5,8 @@ use native.Mathlib.Omega.{arith}
 use lib.ListN.{length}
 use lib.Seq.{take-all}
 use borrow.Author.Needs.{needs}
-use Rattle.walk.proofs.own.Statement.{statement}
-use Rattle.walk.proofs.own.Tie as tie
+use Rattle.stretch.proofs.own.Statement.{statement}
+use Rattle.stretch.proofs.own.Tie as tie
 
 sub-result : tie.Need-sub-result
 sub-result c = search needs
