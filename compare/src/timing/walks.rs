@@ -63,7 +63,7 @@ fn with_sets(pairs: u16) -> Vec<Text> {
     let among: Vec<u16> =
         side_by_side(before).chain([3, 9]).chain(side_by_side(pairs - before - 1)).collect();
     let random = &mut Random::new(SEED);
-    let spread = (0..pairs).flat_map(|_| [3, random.below(32_768) as u16 * 2]).collect();
+    let spread = (0..pairs).flat_map(|_| [3, random.below(21_845) as u16 * 3 + 1]).collect();
     let text = |what: &str, sets: Vec<u16>, glyph: fn(&mut Random, usize) -> Glyph| Text {
         sets,
         ..Text::new(&format!("{pairs} pairs, {what}"), SET_3, glyph)
@@ -72,7 +72,7 @@ fn with_sets(pairs: u16) -> Vec<Text> {
         text("marks outside", side_by_side(pairs).collect(), |_, _| MARK),
         text("ignorable marks of the set", among, |_, _| IGNORABLE_MARK),
         text("all over, marks outside", spread, |random, _| {
-            [random.below(32_768) as u32 * 2 + 1, 1, 0x0000_0108, 0x0101]
+            [random.below(21_845) as u32 * 3, 1, 0x0000_0108, 0x0101]
         }),
     ]
 }

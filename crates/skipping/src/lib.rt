@@ -9,7 +9,7 @@ ghost use Rattle.verdict.specs.Verdict.{ignoredClass, otherMark, skipYes, ignor
 ghost use Rattle.skipping.specs.Care.{careOf};
 
 // Props of a class that the lookup ignores.
-fn is_ignored_class(asked: u32, props: u32) -> bool
+pub fn is_ignored_class(asked: u32, props: u32) -> bool
     ensures { λ r. ⌜ r ≡ ignoredClass asked props ⌝ }
 {
     ((props / 2 % 2 == 1) & (asked / 2 % 2 == 1))

@@ -7,7 +7,6 @@ ghost use mathlib.Core.Bool.{true};
 ghost use Prim.Native.Nat.{_+_, _-_, _*_, _/_, _≤_, _<_};
 ghost use lib.ListN.{length, getD};
 ghost use Rattle.glyph.specs.Glyph.{glyphsOf, blank};
-ghost use Rattle.verdict.specs.Verdict.{ignoredClass};
 ghost use Rattle.stretch.specs.Stretch.{Yes, Crossed, lowestOf, mayPass, yesAt};
 ghost use Rattle.stretch.specs.Blocks.{block, classBy, told, turnedAt, toldAt, Common};
 ghost use Rattle.stretch.specs.Outside.{outsideAt, Admits, Grown};
@@ -76,7 +75,7 @@ fn may_pass(row: &[u32], p: usize, asked: u32) -> bool
     ensures { λ r. ⌜ r ≡ mayPass asked (getD (glyphsOf (now (row .entry))) p blank .props) ⌝ }
 {
     let props = glyph::read(row, p).props as u32;
-    if is_ignored(asked, props) {
+    if skipping::is_ignored_class(asked, props) {
         return true;
     }
     (props / 8 % 2 == 1) & ((asked / 16 % 2 == 1) | (asked / 256 % 256 != 0))
@@ -94,15 +93,6 @@ fn left_after(row: &[u32], len: usize, left: usize, back: bool, asked: u32, sets
     }
     let class = class_asked(asked);
     after_class(row, len, left, back, asked, class)
-}
-
-// Props of a class that the lookup ignores.
-fn is_ignored(asked: u32, props: u32) -> bool
-    ensures { λ r. ⌜ r ≡ ignoredClass asked props ⌝ }
-{
-    ((props / 2 % 2 == 1) & (asked / 2 % 2 == 1))
-        | ((props / 4 % 2 == 1) & (asked / 4 % 2 == 1))
-        | ((props / 8 % 2 == 1) & (asked / 8 % 2 == 1))
 }
 
 // The attachment class that the lookup goes by, 0 if it goes by none.
@@ -158,7 +148,7 @@ fn is_told(asked: u32, class: u16, turned: u16) -> bool
     ensures { λ r. ⌜ r ≡ told asked class turned ⌝ }
 {
     let x = turned as u32;
-    is_ignored(asked, x) | ((class != 0) & (x / 8 % 2 == 1) & (256 <= x))
+    skipping::is_ignored_class(asked, x) | ((class != 0) & (x / 8 % 2 == 1) & (256 <= x))
 }
 
 // The bits that a block's props have in common, once those of `class` are turned.
