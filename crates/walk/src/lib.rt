@@ -122,7 +122,8 @@ pub fn back_extent(p: usize) -> usize
     if p == 0 { 0 } else { p - 1 }
 }
 
-// The backward walk: the next place to test is the one before `place`.
+// The backward walk: the next place to test is the one before `place`. A glyph is read anew where it isn't skip Yes, for the compiler then loads no more
+// than its props for one that is.
 pub fn backward_from(
     row: &[u32],
     place: usize,
@@ -137,10 +138,12 @@ pub fn backward_from(
     let mut left = place;
     while 0 < left {
         left -= 1;
-        match judging::judge(m, sign, syllable, sets, glyph::read(row, left)) {
-            Verdict::Match => return Walked::Found(left),
-            Verdict::NotMatch => return Walked::Stopped(back_extent(left)),
-            Verdict::Skip => {}
+        if !skipping::is_skip_yes(m, sets, glyph::read(row, left)) {
+            match judging::on_rest(m, sign, syllable, glyph::read(row, left)) {
+                Verdict::Match => return Walked::Found(left),
+                Verdict::NotMatch => return Walked::Stopped(back_extent(left)),
+                Verdict::Skip => {}
+            }
         }
     }
     Walked::RanOut(0)

@@ -4,9 +4,12 @@ use Prim.Native.Nat.{ℕ, _-_, _≤_}
 use mathlib.Core.Path.{_≡_, refl, sym, ap, _∙_}
 use native.Mathlib.Omega.{arith}
 use borrow.Author.Needs.{needs}
-use Rattle.glyph.specs.Glyph.{glyphsOf}
+use borrow.Author.Tests.{not-true, not-false}
+use lib.ListN.{getD}
+use Rattle.glyph.specs.Glyph.{glyphsOf, blank}
 use Rattle.verdict.specs.declared.Verdict.{Verdict}
-use Rattle.verdict.specs.Verdict.{verdict, judgeAt}
+use Rattle.verdict.specs.Verdict.{skipYes, restOf, judgeAt}
+use Rattle.verdict.specs.Laws.{judged-yes, judged-rest}
 use Rattle.walk.specs.declared.Walked.the-variants.{Stopped}
 use Rattle.walk.specs.Walk.{afterBack, walkBack}
 use Rattle.walk.specs.Steps.{back-turn, back-end}
@@ -29,11 +32,16 @@ sub-left c = search needs
 read-requires : tie.Need-read-requires Inv-loop μ-loop
 read-requires c κs = search needs
 
-judge-requires : tie.Need-judge-requires Inv-loop μ-loop
-judge-requires c κs = search needs
+is-skip-yes-requires : tie.Need-is-skip-yes-requires Inv-loop μ-loop
+is-skip-yes-requires c κs = search needs
 
--- a turn whose verdict is r
-module _ (c : tie.After-judge Inv-loop μ-loop) where
+read-requires-2 : tie.Need-read-requires-2 Inv-loop μ-loop
+read-requires-2 c κs = search needs
+
+on-rest-requires : tie.Need-on-rest-requires Inv-loop μ-loop
+on-rest-requires c κs = search needs
+
+module _ (c : tie.After-is-skip-yes Inv-loop μ-loop) where
   abbrev judge : ℕ → Verdict
   judge =
       let a = c .before .before .before .before .before .before .args in
@@ -42,18 +50,38 @@ module _ (c : tie.After-judge Inv-loop μ-loop) where
   abbrev tested : ℕ
   tested = c .before .before .before .loop .left - 1
 
-  turn : (r : Verdict) → c .judge .result ≡ r
+  -- a turn whose verdict is r
+  turn : (r : Verdict) → judge tested ≡ r
       → walkBack judge (c .before .before .before .before .before .before .args .place) ≡ afterBack r tested (walkBack judge tested)
   turn r e =
+      let l = c .before .before .before .loop in
+      l .inv .1 ∙ back-turn judge (l .left) tested (omega arith) r e
+
+  -- what was asked of the glyph that was read
+  asked : c .is-skip-yes .result
+      ≡ skipYes (c .before .before .before .before .before .before .args .m) (c .before .before .before .before .before .before .args .sets .now)
+      (getD (glyphsOf (c .before .before .before .before .before .before .args .row .now)) tested blank)
+  asked =
       let a = c .before .before .before .before .before .before .args in
-      let told = c .judge .ensures ∙ ap (verdict (a .m) (a .sign) (a .syllable) (a .sets .now)) (c .before .read .ensures) in
-      c .before .before .before .loop .inv .1 ∙ back-turn judge (c .before .before .before .loop .left) tested (omega arith) r (sym told ∙ e)
+      c .is-skip-yes .ensures ∙ ap (skipYes (a .m) (a .sets .now)) (c .before .read .ensures)
+
+-- what the rest says is the verdict
+module _ (c : tie.After-on-rest Inv-loop μ-loop) where
+  told : (r : Verdict) → c .on-rest .result ≡ r → judge (c .before .before .before) (tested (c .before .before .before)) ≡ r
+  told r e =
+      let d = c .before .before .before in
+      let a = d .before .before .before .before .before .before .args in
+      let gs = glyphsOf (a .row .now) in
+      judged-rest (a .m) (a .sign) (a .syllable) (a .sets .now) gs (tested d) (getD gs (tested d) blank) (d .is-skip-yes .result) (c .on-rest .result) refl (asked d)
+      (not-true (d .is-skip-yes .result) (c .before .before .if1 .taken))
+      (c .on-rest .ensures ∙ ap (restOf (a .m) (a .sign) (a .syllable)) (c .before .read2 .ensures))
+      ∙ e
 
 enum-told : tie.Need-enum-told Inv-loop μ-loop
 enum-told c = search needs
 
 returns : tie.Need-returns Inv-loop μ-loop
-returns c = sym (turn (c .before .before) _ (c .enum-told .given .1))
+returns c = let e = c .before .before in sym (turn (e .before .before .before) _ (told e _ (c .enum-told .given .1)))
 
 enum-told-2 : tie.Need-enum-told-2 Inv-loop μ-loop
 enum-told-2 c = search needs
@@ -64,7 +92,8 @@ back-extent-requires c κs = search needs
 returns-2 : tie.Need-returns-2 Inv-loop μ-loop
 returns-2 c =
     let d = c .before in
-    ap Stopped (c .back-extent .ensures) ∙ sym (turn (d .before .before) _ (d .enum-told2 .given .1))
+    let e = d .before .before in
+    ap Stopped (c .back-extent .ensures) ∙ sym (turn (e .before .before .before) _ (told e _ (d .enum-told2 .given .1)))
 
 enum-told-3 : tie.Need-enum-told-3 Inv-loop μ-loop
 enum-told-3 c = search needs
@@ -73,7 +102,21 @@ loop-less : tie.Need-loop-less Inv-loop μ-loop
 loop-less c = search needs
 
 loop-again : tie.Need-loop-again Inv-loop μ-loop
-loop-again c = (omega arith, turn (c .before .before) _ (c .enum-told3 .given .1))
+loop-again c = let e = c .before .before in (omega arith, turn (e .before .before .before) _ (told e _ (c .enum-told3 .given .1)))
+
+loop-less-2 : tie.Need-loop-less-2 Inv-loop μ-loop
+loop-less-2 c = search needs
+
+loop-again-2 : tie.Need-loop-again-2 Inv-loop μ-loop
+loop-again-2 c =
+    let d = c .before in
+    let a = d .before .before .before .before .before .before .args in
+    let gs = glyphsOf (a .row .now) in (
+      omega arith,
+      turn d _
+          (judged-yes (a .m) (a .sign) (a .syllable) (a .sets .now) gs (tested d) (getD gs (tested d) blank) (d .is-skip-yes .result) refl (asked d)
+          (not-false (d .is-skip-yes .result) (c .if1 .left))),
+    )
 
 returns-3 : tie.Need-returns-3 Inv-loop μ-loop
 returns-3 c =
@@ -90,7 +133,9 @@ backward-from-spec =
     loop-holds
     sub-left
     read-requires
-    judge-requires
+    is-skip-yes-requires
+    read-requires-2
+    on-rest-requires
     enum-told
     returns
     enum-told-2
@@ -99,4 +144,6 @@ backward-from-spec =
     enum-told-3
     loop-less
     loop-again
+    loop-less-2
+    loop-again-2
     returns-3)
