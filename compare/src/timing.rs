@@ -37,7 +37,7 @@ const TAPE_TURNS: u32 = 21;
 const MARK: Glyph = [9, 1, 0x0000_0108, 0x0101];
 const PLAIN: Glyph = [9, 1, 0, 0x0101];
 
-/// Nanoseconds a glyph, of each round.
+/// Nanoseconds a glyph, a walk, a match or what else is timed, of each round.
 struct Times(Vec<f64>);
 
 impl Times {
@@ -84,7 +84,7 @@ fn print_line(name: &str, theirs: Times, our: Times) {
     let [best, median] = theirs.best_and_median();
     let [our_best, our_median] = our.best_and_median();
     let ratios = [our_best / best, our_median / median];
-    print!("  {name:<48} {best:>8.2} {median:>8.2}  {our_best:>8.2} {our_median:>8.2}");
+    print!("  {name:<50} {best:>8.2} {median:>8.2}  {our_best:>8.2} {our_median:>8.2}");
     println!("  {:>6.2} {:>6.2}", ratios[0], ratios[1]);
 }
 
@@ -92,9 +92,9 @@ fn print_head(place: &str) {
     println!("timing: {place}");
     println!("the two sides by turns, inputs drawn from seed {SEED};");
     println!("the ratio is ours to the original's, below 1 where ours is faster");
-    println!("  {:48} {:^17}  {:^17}  {:^13}", "", "original", "ours", "ratio");
+    println!("  {:50} {:^17}  {:^17}  {:^13}", "", "original", "ours", "ratio");
     let two = |width: usize| format!("{:>width$} {:>width$}", "best", "median");
-    println!("  {:48} {}  {}  {}", "", two(8), two(8), two(6));
+    println!("  {:50} {}  {}  {}", "", two(8), two(8), two(6));
 }
 
 /// The tape alone.

@@ -1,6 +1,7 @@
-//! Both walks: over a whole line, warm and cold; over shorter lines; to the next
-//! base, over so many marks; over marks with mark sets of so many pairs.
-use super::{line, print_line, time, Times, GLYPHS, MARK, PLAIN, SEED, SOUGHT};
+//! Both walks: over a whole line, warm and cold; over shorter lines; over marks
+//! with mark sets of so many pairs; to the next base, over so many marks, in a line
+//! of bases and in one where each base has as many.
+use super::{line, print_line, Times, GLYPHS, MARK, PLAIN, SEED, SOUGHT};
 use crate::draw;
 use crate::ours::{self, Sign};
 use crate::random::Random;
@@ -17,8 +18,11 @@ const FLAG_8: u32 = 8;
 /// The marks' own class is 1.
 const CLASS_2: u32 = 0x200;
 const SET_3: u32 = 3 << 16 | 0x10;
+const LAST: usize = GLYPHS - 1;
 /// What is read between two walks so that the row isn't in a near cache.
 const ELSEWHERE: usize = 64 << 20;
+/// Ids all over 16 bits are drawn from another seed than the glyphs.
+const OTHER_SEED: u64 = 2;
 
 /// All of its glyphs are passed over, but for the last that a walk meets in the
 /// mixture, which stops it.
@@ -49,29 +53,33 @@ fn ignorables() -> Text {
 
 fn mixture() -> Text {
     Text::new("a mixture that stops at its last", 0x202, |random, place| match place {
-        0 | 1023 => PLAIN,
+        0 | LAST => PLAIN,
         _ => random.pick(&[MARK, MARK, MARK, IGNORABLE, IGNORABLE, BASE, BASE]),
     })
 }
 
-/// Sets of so many pairs: marks outside the set; marks of the set, which are
-/// passed over because they are ignorable; and where a digest helps least, ids
-/// from all over 16 bits, none of which is in the set.
-fn with_sets(pairs: u16) -> Vec<Text> {
-    let side_by_side = |n: u16| (0..n).flat_map(|i| [3, 1000 + i]);
+fn side_by_side(pairs: u16) -> impl Iterator<Item = u16> {
+    (0..pairs).flat_map(|i| [3, 1000 + i])
+}
+
+/// Sets of so many pairs: marks outside the set, whose ids lie side by side; marks of
+/// the set, which are passed over because they are ignorable; and where a digest
+/// helps least, ids from all over 16 bits, none of which is in the set.
+fn with_sets(pairs: u16) -> [Text; 3] {
     let before = pairs / 2;
     let among: Vec<u16> =
         side_by_side(before).chain([3, 9]).chain(side_by_side(pairs - before - 1)).collect();
-    let random = &mut Random::new(SEED);
-    let spread = (0..pairs).flat_map(|_| [3, random.below(21_845) as u16 * 3 + 1]).collect();
-    let text = |what: &str, sets: Vec<u16>, glyph: fn(&mut Random, usize) -> Glyph| Text {
+    let random = &mut Random::new(OTHER_SEED);
+    let scattered = (0..pairs).flat_map(|_| [3, random.below(21_845) as u16 * 3 + 1]).collect();
+    let noun = if pairs == 1 { "pair" } else { "pairs" };
+    let text = |name: String, sets: Vec<u16>, glyph: fn(&mut Random, usize) -> Glyph| Text {
         sets,
-        ..Text::new(&format!("{pairs} pairs, {what}"), SET_3, glyph)
+        ..Text::new(&name, SET_3, glyph)
     };
-    vec![
-        text("marks outside", side_by_side(pairs).collect(), |_, _| MARK),
-        text("ignorable marks of the set", among, |_, _| IGNORABLE_MARK),
-        text("all over, marks outside", spread, |random, _| {
+    [
+        text(format!("{pairs} {noun}, marks outside"), side_by_side(pairs).collect(), |_, _| MARK),
+        text(format!("{pairs} {noun}, ignorable marks of the set"), among, |_, _| IGNORABLE_MARK),
+        text(format!("{pairs} scattered {noun}, marks outside"), scattered, |random, _| {
             [random.below(21_845) as u32 * 3, 1, 0x0000_0108, 0x0101]
         }),
     ]
@@ -81,37 +89,49 @@ fn with_sets(pairs: u16) -> Vec<Text> {
 pub fn run(rounds: u32) {
     println!("nanoseconds a glyph over {GLYPHS} glyphs, rows warm");
     for text in [marks(), other_marks(), ignorables(), mixture()] {
-        over(&text, GLYPHS, |pair| pair.warm(&text.name, rounds));
+        over(&text, GLYPHS, |sides| sides.warm(&text.name, rounds));
     }
-    println!("nanoseconds a glyph over {GLYPHS} marks, rows warm, a set is named");
+    let few = rounds / 3 + 1;
+    println!("nanoseconds a glyph over {GLYPHS} marks, rows warm, a set is named; {few} rounds");
     for text in [1, 10, 200, 2000].into_iter().flat_map(with_sets) {
-        over(&text, GLYPHS, |pair| pair.warm(&text.name, rounds / 3 + 1));
+        over(&text, GLYPHS, |sides| sides.warm(&text.name, few));
     }
-    println!("nanoseconds a glyph over {GLYPHS} glyphs, rows cold: before each walk 64 MiB elsewhere are read");
+    println!("nanoseconds a glyph over {GLYPHS} glyphs, rows cold: before each walk 64 MiB elsewhere are read; {few} rounds");
     let elsewhere = vec![1_u8; ELSEWHERE];
     for text in [marks(), other_marks(), ignorables()] {
-        over(&text, GLYPHS, |pair| pair.cold(&text.name, rounds / 3 + 1, &elsewhere));
+        over(&text, GLYPHS, |sides| sides.cold(&text.name, few, &elsewhere));
     }
     println!("nanoseconds a glyph, rows warm");
     for text in [marks(), other_marks(), ignorables()] {
         for glyphs in [64, 256, GLYPHS] {
-            over(&text, glyphs, |pair| pair.warm(&format!("{glyphs}, {}", text.name), rounds));
+            over(&text, glyphs, |sides| sides.warm(&format!("{glyphs}, {}", text.name), rounds));
         }
     }
-    println!("nanoseconds a walk to the next base, rows warm");
-    for (name, props, mark) in [
-        ("under flag 8", FLAG_8, MARK),
-        ("of another class", CLASS_2, MARK),
-        ("outside a set of 10 pairs", SET_3, MARK),
-    ] {
+    let lookups = [
+        ("under flag 8", FLAG_8, vec![]),
+        ("of another class", CLASS_2, vec![]),
+        ("outside a set of 10 pairs", SET_3, side_by_side(10).collect()),
+    ];
+    println!("nanoseconds a walk to the next base in a line of bases, rows warm");
+    for (name, props, sets) in &lookups {
         for marks in [0, 1, 2, 4, 8, 16, 32] {
-            to_the_next(&format!("{marks} marks {name}"), props, mark, marks, rounds);
+            to_the_next(name, *props, sets, marks, |_| BASE, rounds);
+        }
+    }
+    println!("nanoseconds a walk to the next base, each base with as many marks, rows warm");
+    for (name, props, sets) in &lookups {
+        for marks in [1, 2, 3, 4, 8] {
+            let pointed = |from_place: usize| match from_place % (marks + 1) {
+                0 => BASE,
+                _ => MARK,
+            };
+            to_the_next(name, *props, sets, marks, pointed, rounds);
         }
     }
 }
 
 /// The same row on both sides, and where the walks start from.
-struct Pair<'p, 'r, 'a> {
+struct Sides<'p, 'r, 'a> {
     original: &'p mut Row<'r, 'a>,
     ours: ours::Row<'p>,
     len: usize,
@@ -124,46 +144,52 @@ struct Pair<'p, 'r, 'a> {
 /// Walks that go over all of a text: forward with the input matcher from the
 /// first glyph, backward with the context matcher from the last. The one they
 /// start from isn't tested.
-fn over(text: &Text, len: usize, ask: impl FnOnce(&mut Pair)) {
+fn over(text: &Text, len: usize, ask: impl FnOnce(&mut Sides)) {
     let random = &mut Random::new(SEED);
     let glyphs: Vec<Glyph> = (0..len).map(|place| (text.glyph)(random, place)).collect();
-    let setup =
-        Setup { mask: 1, props: text.props, sets: text.sets.clone(), ..Setup::default() };
-    with_pair(&setup, &glyphs, [0, len - 1], len - 1, |pair| {
-        let met = [pair.original_forward(), pair.original_backward()];
-        assert_eq!(met, [(false, len), (false, 0)], "both walks go over all of {}", text.name);
-        ask(pair);
+    let setup = Setup { mask: 1, props: text.props, sets: text.sets.clone(), ..Setup::default() };
+    with_sides(&setup, &glyphs, [0, len - 1], len - 1, |sides| {
+        sides.must_end([(false, len), (false, 0)], &text.name);
+        ask(sides);
     });
 }
 
-/// Walks over so many marks to the base that is sought, in a line of bases.
-fn to_the_next(name: &str, props: u32, mark: Glyph, marks: usize, rounds: u32) {
+/// Walks over so many marks to the base that is sought. `other` is the glyph so many
+/// places from where they start.
+fn to_the_next(
+    name: &str,
+    props: u32,
+    sets: &[u16],
+    marks: usize,
+    other: impl Fn(usize) -> Glyph,
+    rounds: u32,
+) {
     let place = GLYPHS / 2;
-    let mut glyphs = vec![BASE; GLYPHS];
-    glyphs[place - marks..=place + marks].fill(mark);
+    let mut glyphs: Vec<Glyph> = (0..GLYPHS).map(|p| other(p.abs_diff(place))).collect();
+    glyphs[place - marks..=place + marks].fill(MARK);
     (glyphs[place - marks - 1], glyphs[place]) = (FOUND, BASE);
     glyphs[place + marks + 1] = FOUND;
-    let sets = if props == SET_3 { with_sets(10).swap_remove(0).sets } else { vec![] };
-    let setup = Setup { mask: 1, props, sets, ..Setup::default() };
-    with_pair(&setup, &glyphs, [place, place], 1, |pair| {
-        let met = [pair.original_forward(), pair.original_backward()];
-        assert_eq!(met, [(true, place + marks + 1), (true, place - marks - 1)], "{name}");
-        pair.warm(name, rounds);
+    let s = if marks == 1 { "" } else { "s" };
+    let name = format!("{marks} mark{s} {name}");
+    let setup = Setup { mask: 1, props, sets: sets.to_vec(), ..Setup::default() };
+    with_sides(&setup, &glyphs, [place, place], 1, |sides| {
+        sides.must_end([(true, place + marks + 1), (true, place - marks - 1)], &name);
+        sides.warm(&name, rounds);
     });
 }
 
-fn with_pair(
+fn with_sides(
     setup: &Setup,
     glyphs: &[Glyph],
     [forward_from, backward_from]: [usize; 2],
     divisor: usize,
-    ask: impl FnOnce(&mut Pair),
+    ask: impl FnOnce(&mut Sides),
 ) {
     let words = draw::words(glyphs);
     let len = glyphs.len();
     with_row(setup, glyphs, len, 0, |row| {
         let ours = ours::Row { setup, words: &words };
-        ask(&mut Pair { original: row, ours, len, forward_from, backward_from, glyphs: divisor });
+        ask(&mut Sides { original: row, ours, len, forward_from, backward_from, glyphs: divisor });
     });
 }
 
@@ -171,12 +197,23 @@ fn sign() -> Sign {
     Sign { test: Test::Equal(black_box(SOUGHT)), syllable: 0, spare: 0 }
 }
 
-impl Pair<'_, '_, '_> {
+impl Sides<'_, '_, '_> {
     fn original_forward(&mut self) -> (bool, usize) {
         self.original.bare_forward(Role::Input, self.forward_from, black_box(SOUGHT))
     }
     fn original_backward(&mut self) -> (bool, usize) {
         self.original.bare_backward(Role::Context, self.backward_from, black_box(SOUGHT))
+    }
+
+    /// Found or not, and the place or the extent, of both walks on both sides.
+    fn must_end(&mut self, ends: [(bool, usize); 2], name: &str) {
+        let original = [self.original_forward(), self.original_backward()];
+        assert_eq!(original, ends, "the original's walks over {name}");
+        let forward = self.ours.forward(Role::Input, self.len, self.forward_from, sign());
+        let backward = self.ours.backward(Role::Context, self.backward_from, sign());
+        let ours = [forward, backward].map(|walked| (walked.number, walked.place));
+        let wanted = ends.map(|(found, place)| (if found { 0 } else { 4 }, place));
+        assert_eq!(ours, wanted, "our walks over {name}");
     }
 
     fn warm(&mut self, name: &str, rounds: u32) {
@@ -211,20 +248,20 @@ impl Pair<'_, '_, '_> {
         let mut times = [(); 4].map(|()| Times(vec![]));
         for _ in 0..rounds {
             read(elsewhere);
-            self.take(&mut times[0], |pair| {
-                black_box(pair.original_forward());
+            self.take(&mut times[0], |sides| {
+                black_box(sides.original_forward());
             });
             read(elsewhere);
-            self.take(&mut times[1], |pair| {
-                black_box(pair.ours.forward(Role::Input, pair.len, pair.forward_from, sign()));
+            self.take(&mut times[1], |sides| {
+                black_box(sides.ours.forward(Role::Input, sides.len, sides.forward_from, sign()));
             });
             read(elsewhere);
-            self.take(&mut times[2], |pair| {
-                black_box(pair.original_backward());
+            self.take(&mut times[2], |sides| {
+                black_box(sides.original_backward());
             });
             read(elsewhere);
-            self.take(&mut times[3], |pair| {
-                black_box(pair.ours.backward(Role::Context, pair.backward_from, sign()));
+            self.take(&mut times[3], |sides| {
+                black_box(sides.ours.backward(Role::Context, sides.backward_from, sign()));
             });
         }
         let [forward, our_forward, backward, our_backward] = times;
@@ -233,8 +270,8 @@ impl Pair<'_, '_, '_> {
     }
 
     fn take(&mut self, times: &mut Times, walk: impl Fn(&mut Self)) {
-        let took = time(1, &mut || walk(self)).as_nanos() as f64;
-        times.0.push(took / self.glyphs as f64);
+        let glyphs = self.glyphs;
+        times.take(1, glyphs, &mut || walk(self));
     }
 }
 

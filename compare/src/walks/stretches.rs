@@ -1,5 +1,5 @@
-//! Long walks: sixteen glyphs and more are passed over one after the other, which
-//! our walk crosses a block at a time (crates/stretch).
+//! Long walks: two dozen glyphs and more are passed over one after the other,
+//! which our walk crosses quickly (crates/stretch).
 use super::{glyph, Asker, Case, Way, ALPHABET, WAYS};
 use crate::draw;
 use crate::random::Random;
@@ -12,14 +12,16 @@ const FOUND: Glyph = glyph(7, 1, 0, 0, 2);
 const LIGATURE: Glyph = glyph(5, 1, 0, 0, 4);
 const MARK: Glyph = glyph(9, 1, 0, 0, 0x108);
 const OTHER_MARK: Glyph = glyph(8, 1, 0, 0, 0x108);
+const MARK_OF_2: Glyph = glyph(9, 1, 0, 0, 0x208);
 
 /// A lookup and glyphs that it passes over as skip Yes, taken by turns.
-const PASSED: [(u32, &[Glyph]); 9] = [
+const PASSED: [(u32, &[Glyph]); 10] = [
     (8, &[MARK]),
     (2, &[BASE]),
     (4, &[LIGATURE]),
     (0xE, &[MARK, BASE, LIGATURE]), // no bit in common
     (0x200, &[MARK]),
+    (0x300, &[MARK, MARK_OF_2]), // no bit of the class in common, once 3 is turned
     (0xA00, &[MARK, OTHER_MARK]),
     (0x3_0010, &[OTHER_MARK]),
     (0x3_0018, &[MARK, OTHER_MARK]), // of the set and not, and marks are ignored
@@ -35,19 +37,22 @@ fn setup(props: u32, sets: Vec<u16>) -> Setup {
     Setup { mask: 1, props, sets, ..Setup::default() }
 }
 
-/// Every length round one block, two and four, with every glyph of the alphabet
-/// in place of each one that is passed over, and with none.
+/// Lengths round three blocks, four and five, as they are and with every glyph of
+/// the alphabet in each place; a glyph to be found stands at either end.
 pub fn every(asker: &mut Asker) {
     for (props, passed) in PASSED {
-        for count in [15, 16, 17, 23, 24, 25, 33] {
-            for (odd, place) in ALPHABET.iter().flat_map(|odd| (0..=count).map(move |i| (odd, i))) {
-                let mut glyphs: Vec<Glyph> = passed.iter().cycle().take(count).copied().collect();
-                if let Some(glyph) = glyphs.get_mut(place) {
-                    *glyph = *odd;
+        for count in [23, 24, 25, 31, 32, 33, 40, 41] {
+            let glyphs: Vec<Glyph> = passed.iter().cycle().take(count).copied().collect();
+            let row = [&[FOUND][..], &glyphs, &[FOUND]].concat();
+            let case = Case::new(setup(props, sets()), row, count + 2, 0);
+            asker.both_ways(&case, "walks over long stretches");
+            for place in 1..=count {
+                for odd in ALPHABET {
+                    let mut row = case.glyphs.clone();
+                    row[place] = odd;
+                    let case = Case::new(setup(props, sets()), row, count + 2, 0);
+                    asker.both_ways(&case, "walks over long stretches with a glyph otherwise");
                 }
-                let row = [&[FOUND][..], &glyphs, &[FOUND]].concat();
-                let case = Case::new(setup(props, sets()), row, count + 2, 0);
-                asker.both_ways(&case, "walks over every long stretch with a glyph otherwise");
             }
         }
     }
@@ -56,8 +61,8 @@ pub fn every(asker: &mut Asker) {
 /// Up to 200 glyphs with up to three otherwise, under drawn settings.
 pub fn random(asker: &mut Asker, random: &mut Random) {
     let (props, passed) = random.pick(&PASSED);
-    let most = if random.one_in(8) { 187 } else { 40 };
-    let count = 14 + random.below(most) as usize;
+    let most = if random.one_in(8) { 177 } else { 40 };
+    let count = 24 + random.below(most) as usize;
     let mut row: Vec<Glyph> = passed.iter().cycle().take(count).copied().collect();
     for _ in 0..random.below(4) {
         let place = random.below(count as u64) as usize;
@@ -70,12 +75,12 @@ pub fn random(asker: &mut Asker, random: &mut Random) {
 }
 
 impl Asker {
-    /// From the first glyph and from the row's end, for an id that may stand there.
+    /// Forward from the first glyph and backward from the last, for id 7.
     fn both_ways(&mut self, case: &Case, input: &'static str) {
         with_row(&case.setup, &case.glyphs, case.len, case.syllable, |row| {
             for way in WAYS {
                 for role in ROLES {
-                    let place = if way == Way::Forward { 0 } else { case.glyphs.len() };
+                    let place = if way == Way::Forward { 0 } else { case.glyphs.len() - 1 };
                     self.summary.input(input);
                     self.walk(case, row, (way, role), place, case.sign(Test::Equal(7), 0));
                 }
@@ -84,8 +89,8 @@ impl Asker {
     }
 }
 
-/// What tells a wrong answer, of which crates/stretch/must-fail and
-/// crates/walk/must-fail have a file each, from the right one.
+/// A walk that tells a wrong answer, one of crates/stretch/must-fail, from the
+/// right one.
 pub struct Witness {
     pub case: Case,
     pub way: Way,
@@ -110,20 +115,20 @@ pub fn witnesses() -> Vec<Witness> {
     };
     vec![
         // a_block_has_the_bits_of_any_glyph, the_last_glyph_of_a_block_isnt_looked_at
-        forward(8, &[], &[&marks(7), &[BASE], &marks(8)]),
+        forward(8, &[], &[&marks(7), &[BASE], &marks(16)]),
         // marks_of_the_class_asked_are_passed
-        forward(0x100, &[], &[&marks(16)]),
-        // the_next_places_are_at_the_other_end, a_long_walk_forward_begins_at_the_rows_start
-        forward(8, &[], &[&[BASE], &marks(31)]),
+        forward(0x100, &[], &[&marks(24)]),
+        // a_long_walk_forward_begins_at_the_rows_end
+        forward(8, &[], &[&marks(3), &[BASE], &marks(36)]),
         // what_the_digest_admits_is_outside
-        forward(0x3_0010, &[3, 9], &[&marks(16)]),
+        forward(0x3_0010, &[3, 9], &[&marks(24)]),
         // a_digest_is_of_the_other_sets
-        forward(0x3_0010, &[3, 9], &[&others(8), &marks(8)]),
+        forward(0x3_0010, &[3, 9], &[&others(8), &marks(16)]),
         // a_base_is_outside_the_set
-        forward(0x3_0010, &[3, 9], &[&[BASE; 15], &others(1)[..]]),
+        forward(0x3_0010, &[3, 9], &[&others(16), &[BASE], &others(7)]),
         // a_long_walk_backward_begins_at_the_rows_start
-        backward(8, &[], &[&marks(32), &[BASE]]),
+        backward(8, &[], &[&marks(36), &[BASE], &marks(3)]),
         // a_long_walk_has_half_the_sets
-        backward(0x3_0010, &[3, 8, 3, 9], &[&[FOUND], &marks(16)]),
+        backward(0x3_0010, &[3, 8, 3, 9], &[&[FOUND], &marks(24)]),
     ]
 }

@@ -1,5 +1,5 @@
--- The code's side: glyphs that are passed over for their class, told of a whole block at one look. The props of a block's glyphs have bits in
--- common, with those of the attachment class asked turned, so that a mark of another class is one with a bit from bit 8 on. What the common
+-- The code's side: glyphs that are passed over for their class, shown of a whole block at one look. The props of a block's glyphs have bits in
+-- common, with those of the attachment class asked flipped, so that a mark of another class is one with a bit from bit 8 on. What the common
 -- bits tell holds of each glyph.
 use Prim.Native.Nat.{ℕ, _+_, _*_, _/_, _%_, _^_, _≤_, _<_}
 use mathlib.Core.List.{List}
@@ -15,7 +15,7 @@ use Rattle.bits.specs.Laws.{and-left, and-right, and-both, or-left, or-right, a
 use Rattle.glyph.specs.declared.Glyph.{Glyph}
 use Rattle.glyph.specs.Glyph.{blank}
 use Rattle.verdict.specs.Verdict.{ignoredClass, isMark, usesSet, classAsked, classOf, otherMark}
-use Rattle.stretch.specs.Stretch.{yesAt, Yes}
+use Rattle.stretch.specs.Stretch.{yesAt, AllYes}
 
 -- glyphs a block
 abbrev pub block : ℕ
@@ -25,19 +25,19 @@ block = 8
 abbrev pub classBy : ℕ → ℕ
 classBy asked = cond (usesSet asked) 0 (classAsked asked)
 
-abbrev pub turned : ℕ → ℕ → ℕ
-turned class props = bitXor props (class * 256)
+abbrev pub flipped : ℕ → ℕ → ℕ
+flipped class props = bitXor props (class * 256)
 
--- what turned props tell
-unfoldable pub told : ℕ → ℕ → ℕ → Bool
-told asked class x = ignoredClass asked x || ((not (eqb class 0) && isMark x) && leb 256 x)
+-- what flipped props tell
+unfoldable pub shown : ℕ → ℕ → ℕ → Bool
+shown asked class x = ignoredClass asked x || ((not (eqb class 0) && isMark x) && leb 256 x)
 
 -- the places of a list of glyphs
-abbrev pub turnedAt : ℕ → List Glyph → ℕ → ℕ
-turnedAt class gs i = turned class (getD gs i blank .props)
+abbrev pub flippedAt : ℕ → List Glyph → ℕ → ℕ
+flippedAt class gs i = flipped class (getD gs i blank .props)
 
-abbrev pub toldAt : ℕ → ℕ → List Glyph → ℕ → Bool
-toldAt asked class gs i = told asked class (turnedAt class gs i)
+abbrev pub shownAt : ℕ → ℕ → List Glyph → ℕ → Bool
+shownAt asked class gs i = shown asked class (flippedAt class gs i)
 
 -- the bits of a are bits of x
 abbrev pub Under : ℕ → ℕ → Type 0
@@ -98,79 +98,80 @@ module _ (asked a x : ℕ) (u : Under a x) where
   high-under : leb 256 a ≡ true → leb 256 x ≡ true
   high-under e = le-leb 256 x (let l = leb-true 256 a e in let w = u .0 in omega arith)
 
-  pub told-under : (class : ℕ) → told asked class a ≡ true → told asked class x ≡ true
-  unfolding told
-  told-under class =
-      or-mono (ignoredClass asked a) ((not (eqb class 0) && isMark a) && leb 256 a) (ignoredClass asked x) ((not (eqb class 0) && isMark x) && leb 256 x)
+  pub shown-under : (class : ℕ) → shown asked class a ≡ true → shown asked class x ≡ true
+  unfolding shown
+  shown-under class =
+      or-mono (ignoredClass asked a) ((not (eqb class 0) && isMark a) && leb 256 a)
+      (ignoredClass asked x) ((not (eqb class 0) && isMark x) && leb 256 x)
       ignored-under
       (and-mono (not (eqb class 0) && isMark a) (leb 256 a) (not (eqb class 0) && isMark x) (leb 256 x)
       (and-mono (not (eqb class 0)) (isMark a) (not (eqb class 0)) (isMark x) (same (not (eqb class 0))) (u .1 3))
       high-under)
 
-pub told-block : (asked class all : ℕ) (gs : List Glyph) (a b : ℕ) → Common (turnedAt class gs) all a b → told asked class all ≡ true
-    → Yes (toldAt asked class gs) a b
-told-block asked class all gs a b h e i l g = told-under asked all (turnedAt class gs i) (h i l g) class e
+pub shown-block : (asked class all : ℕ) (gs : List Glyph) (a b : ℕ) → Common (flippedAt class gs) all a b → shown asked class all ≡ true
+    → AllYes (shownAt asked class gs) a b
+shown-block asked class all gs a b h e i l g = shown-under asked all (flippedAt class gs i) (h i l g) class e
 
--- ---- what is told so is skip Yes
+-- ---- what is shown so is skip Yes
 
 module _ (class p : ℕ) where
-  low-kept : turned class p % 256 ≡ p % 256
+  low-kept : flipped class p % 256 ≡ p % 256
   low-kept =
       let z : class * 256 % 2 ^ 8 ≡ 0 = omega arith in
       xor-mod p (class * 256) 8 ∙ ap (bitXor (p % 2 ^ 8)) z ∙ xor-zero-r (p % 2 ^ 8)
 
-  bit-1 : turned class p / 2 ^ 1 % 2 ≡ p / 2 ^ 1 % 2
+  bit-1 : flipped class p / 2 ^ 1 % 2 ≡ p / 2 ^ 1 % 2
   bit-1 = let e = low-kept in omega arith
 
-  bit-2 : turned class p / 2 ^ 2 % 2 ≡ p / 2 ^ 2 % 2
+  bit-2 : flipped class p / 2 ^ 2 % 2 ≡ p / 2 ^ 2 % 2
   bit-2 = let e = low-kept in omega arith
 
-  bit-3 : turned class p / 2 ^ 3 % 2 ≡ p / 2 ^ 3 % 2
+  bit-3 : flipped class p / 2 ^ 3 % 2 ≡ p / 2 ^ 3 % 2
   bit-3 = let e = low-kept in omega arith
 
-  ignored-kept : (asked : ℕ) → ignoredClass asked (turned class p) ≡ ignoredClass asked p
+  ignored-kept : (asked : ℕ) → ignoredClass asked (flipped class p) ≡ ignoredClass asked p
   ignored-kept asked = rw (bit-1, bit-2, bit-3)
 
-  mark-kept : isMark (turned class p) ≡ isMark p
+  mark-kept : isMark (flipped class p) ≡ isMark p
   mark-kept = rw bit-3
 
   -- of the class asked nothing is left
-  class-gone : class ≡ classOf p → turned class p < 256
+  class-gone : class ≡ classOf p → flipped class p < 256
   class-gone e =
       let z : class * 256 / 2 ^ 8 ≡ class = omega arith in
-      let n : turned class p / 2 ^ 8 ≡ 0 =
+      let n : flipped class p / 2 ^ 8 ≡ 0 =
       xor-shr p (class * 256) 8 ∙ ap (bitXor (p / 2 ^ 8)) (z ∙ e) ∙ xor-self (p / 2 ^ 8) in
       omega (arith, n)
 
-  class-other : leb 256 (turned class p) ≡ true → not (eqb class (classOf p)) ≡ true
+  class-other : leb 256 (flipped class p) ≡ true → not (eqb class (classOf p)) ≡ true
   class-other h = by (eqb class (classOf p)) refl
     where
       by : (b : Bool) → eqb class (classOf p) ≡ b → not b ≡ true
-      by true e = let l = leb-true 256 (turned class p) h in let g = class-gone (eqb-true class (classOf p) e) in absurd (omega arith)
+      by true e = let l = leb-true 256 (flipped class p) h in let g = class-gone (eqb-true class (classOf p) e) in absurd (omega arith)
       by false e = refl
 
 module _ (asked : ℕ) (sets : List ℕ) (p id : ℕ) where
-  other-told : (b : Bool) → usesSet asked ≡ b
+  other-shown : (b : Bool) → usesSet asked ≡ b
       → ((not (eqb (cond b 0 (classAsked asked)) 0) && isMark p) && not (eqb (cond b 0 (classAsked asked)) (classOf p))) ≡ true
       → otherMark asked sets p id ≡ true
-  other-told true e h = absurd (true≢false (sym h))
-  other-told false e h =
+  other-shown true e h = absurd (true≢false (sym h))
+  other-shown false e h =
       let c = not (eqb (classAsked asked) 0) in
       let d = not (eqb (classAsked asked) (classOf p)) in
       let l = and-left (c && isMark p) d h in
       rw e (and-both (isMark p) (c && d) (and-right c (isMark p) l) (and-both c d (and-left c (isMark p) l) (and-right (c && isMark p) d h)))
 
-pub told-yes : (asked : ℕ) (sets : List ℕ) (gs : List Glyph) (i : ℕ) → toldAt asked (classBy asked) gs i ≡ true → yesAt asked sets gs i ≡ true
-unfolding told
-told-yes asked sets gs i e =
+pub shown-yes : (asked : ℕ) (sets : List ℕ) (gs : List Glyph) (i : ℕ) → shownAt asked (classBy asked) gs i ≡ true → yesAt asked sets gs i ≡ true
+unfolding shown
+shown-yes asked sets gs i e =
     let c = classBy asked in
     let g = getD gs i blank in
     let p = g .props in
-    let x = turned c p in
+    let x = flipped c p in
     or-mono (ignoredClass asked x) ((not (eqb c 0) && isMark x) && leb 256 x) (ignoredClass asked p) (otherMark asked sets p (g .id))
     (λ h. sym (ignored-kept c p asked) ∙ h)
     (λ h.
-    other-told asked sets p (g .id) (usesSet asked) refl
+    other-shown asked sets p (g .id) (usesSet asked) refl
     (and-mono (not (eqb c 0) && isMark x) (leb 256 x) (not (eqb c 0) && isMark p) (not (eqb c (classOf p)))
     (and-mono (not (eqb c 0)) (isMark x) (not (eqb c 0)) (isMark p) (same (not (eqb c 0))) (λ k. sym (mark-kept c p) ∙ k))
     (class-other c p)

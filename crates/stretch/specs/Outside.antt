@@ -1,4 +1,4 @@
--- The code's side: marks outside the set that a lookup names, told by a digest that admits each glyph of the set.
+-- The code's side: marks outside the set that a lookup names, shown by a digest that admits each glyph of the set.
 use Prim.Native.Nat.{ℕ, _+_, _*_, _/_, _<_, _≤_}
 use mathlib.Core.List.{List}
 use mathlib.Core.Path.{_≡_, refl, sym, ap, _∙_}
@@ -52,18 +52,19 @@ pub record Grown (d r : SetDigest) (s a b : ℕ) : Type 0 where
   pub admits : a ≡ s → mayHave (bitsOf r) b ≡ true
 
 module _ (d r : SetDigest) (sets : List ℕ) (s k : ℕ) where
-  step : (g : ℕ) (m p q n : Bool) → (m ≡ true → n ≡ true) → (p ≡ true → n ≡ true) → (m || (p || q)) ≡ true → (n || q) ≡ true
-  step g true p q n f h e = or-left n q (f refl)
-  step g false true q n f h e = or-left n q (h refl)
-  step g false false q n f h e = or-right n q e
+  step : (m p q n : Bool) → (m ≡ true → n ≡ true) → (p ≡ true → n ≡ true) → (m || (p || q)) ≡ true → (n || q) ≡ true
+  step true p q n f h e = or-left n q (f refl)
+  step false true q n f h e = or-left n q (h refl)
+  step false false q n f h e = or-right n q e
 
-  pub admits-step : k < length sets / 2 → Grown d r s (getD sets (2 * k) 0) (getD sets (2 * k + 1) 0) → AdmitsTo d sets s k → AdmitsTo r sets s (k + 1)
+  pub admits-step : k < length sets / 2 → Grown d r s (getD sets (2 * k) 0) (getD sets (2 * k + 1) 0) → AdmitsTo d sets s k
+      → AdmitsTo r sets s (k + 1)
   admits-step l t h g e =
       let x = getD sets (2 * k) 0 in
       let y = getD sets (2 * k + 1) 0 in
       let q = inSet (drop (2 * (k + 1)) sets) s g in
-      let both = eqb (getD sets (2 * k) 0) s && eqb (getD sets (2 * k + 1) 0) g in
-      step g (mayHave (bitsOf d) g) both q (mayHave (bitsOf r) g) (t .keeps g)
+      let both = eqb x s && eqb y g in
+      step (mayHave (bitsOf d) g) both q (mayHave (bitsOf r) g) (t .keeps g)
       (λ w.
       ap (mayHave (bitsOf r)) (sym (eqb-true y g (and-right (eqb x s) (eqb y g) w)))
       ∙ t .admits (eqb-true x s (and-left (eqb x s) (eqb y g) w)))

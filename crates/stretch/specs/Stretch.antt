@@ -1,5 +1,5 @@
--- The code's side: which places of a row a stretch crosses, and that each of them is skip Yes. Forward the places left to test are the last ones before len,
--- backward the first ones of the row; either way a number says how many are left.
+-- The code's side: which places of a row a stretch crosses, and that each of them is skip Yes. Forward the places left to test are the last ones
+-- before len, backward the first ones of the row; either way a number says how many are left.
 use Prim.Native.Nat.{ℕ, _+_, _-_, _≤_, _<_}
 use mathlib.Core.List.{List}
 use mathlib.Core.Path.{_≡_, refl, sym, ap, _∙_}
@@ -25,12 +25,12 @@ abbrev pub mayPass : ℕ → ℕ → Bool
 mayPass asked props = ignoredClass asked props || (isMark props && (usesSet asked || not (eqb (classAsked asked) 0)))
 
 -- every place from a on and before b
-abbrev pub Yes : (ℕ → Bool) → ℕ → ℕ → Type 0
-Yes y a b = (i : ℕ) → a ≤ i → i < b → y i ≡ true
+abbrev pub AllYes : (ℕ → Bool) → ℕ → ℕ → Type 0
+AllYes y a b = (i : ℕ) → a ≤ i → i < b → y i ≡ true
 
 -- every place that is tested while the number left falls from `left` to `rest`
 abbrev pub Crossed : (ℕ → Bool) → Bool → ℕ → ℕ → ℕ → Type 0
-Crossed y back len left rest = Yes y (cond back rest (len - left)) (cond back left (len - rest))
+Crossed y back len left rest = AllYes y (cond back rest (len - left)) (cond back left (len - rest))
 
 -- the lowest of the next n places
 abbrev pub lowestOf : Bool → ℕ → ℕ → ℕ → ℕ
@@ -39,7 +39,7 @@ lowestOf back len left n = cond back (left - n) (len - left)
 -- ---- laws
 
 module _ (y : ℕ → Bool) where
-  yes-join : (a b c : ℕ) → Yes y a b → Yes y b c → Yes y a c
+  yes-join : (a b c : ℕ) → AllYes y a b → AllYes y b c → AllYes y a c
   yes-join a b c f g i l h = by (ltb i b) refl
     where
       by : (t : Bool) → ltb i b ≡ t → y i ≡ true
@@ -55,13 +55,13 @@ module _ (y : ℕ → Bool) where
   crossed-join false len a b c f g = yes-join (len - a) (len - b) (len - c) f g
 
   -- the next n places
-  pub crossed-next : (back : Bool) (len left n : ℕ) → n ≤ left → left ≤ len → Yes y (lowestOf back len left n) (lowestOf back len left n + n)
+  pub crossed-next : (back : Bool) (len left n : ℕ) → n ≤ left → left ≤ len → AllYes y (lowestOf back len left n) (lowestOf back len left n + n)
       → Crossed y back len left (left - n)
   crossed-next true len left n w v h i l g = h i l (omega arith)
   crossed-next false len left n w v h i l g = h i l (omega arith)
 
   pub crossed-more : (back : Bool) (len left rest n : ℕ) → n ≤ rest → rest ≤ len
-      → Yes y (lowestOf back len rest n) (lowestOf back len rest n + n) → Crossed y back len left rest → Crossed y back len left (rest - n)
+      → AllYes y (lowestOf back len rest n) (lowestOf back len rest n + n) → Crossed y back len left rest → Crossed y back len left (rest - n)
   crossed-more back len left rest n w v h f =
       crossed-join back len left rest (rest - n) f (crossed-next back len rest n w v h)
 
@@ -77,5 +77,6 @@ lowest-within true len left n w v = omega arith
 lowest-within false len left n w v = omega arith
 
 -- what is seen of a row's first glyphs is so of the row
-pub part-yes : (asked : ℕ) (sets : List ℕ) (gs : List Glyph) (n a b : ℕ) → b ≤ n → Yes (yesAt asked sets (take n gs)) a b → Yes (yesAt asked sets gs) a b
+pub part-yes : (asked : ℕ) (sets : List ℕ) (gs : List Glyph) (n a b : ℕ) → b ≤ n → AllYes (yesAt asked sets (take n gs)) a b
+    → AllYes (yesAt asked sets gs) a b
 part-yes asked sets gs n a b w h i l g = sym (ap (yesOf asked sets) (getD-take n gs i blank (omega arith))) ∙ h i l g

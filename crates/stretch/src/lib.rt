@@ -1,32 +1,34 @@
-// A stretch of glyphs that a walk passes over, seen a block at a time. It is there for speed alone: a walk answers the same without it. What is seen is
-// enough for skip Yes and not needed for it; where a stretch ends the walk goes on glyph by glyph. A walk is asked for no stretch unless the sixteenth
-// glyph from its place could be passed over.
+// Long lines of glyphs that a walk passes over, crossed quickly. It is there for speed alone: a walk answers the same without it. Each glyph that is
+// crossed is skip Yes; where the crossing ends, perhaps early, the walk goes on glyph by glyph. A walk that doesn't look to be long crosses nothing.
 use digest::SetDigest;
 ghost use mathlib.Core.Path.{_≡_};
-ghost use mathlib.Core.Bool.{true};
 ghost use Prim.Native.Nat.{_+_, _-_, _*_, _/_, _≤_, _<_};
 ghost use lib.ListN.{length, getD};
 ghost use Rattle.glyph.specs.Glyph.{glyphsOf, blank};
-ghost use Rattle.stretch.specs.Stretch.{Yes, Crossed, lowestOf, mayPass, yesAt};
-ghost use Rattle.stretch.specs.Blocks.{block, classBy, told, turnedAt, toldAt, Common};
+ghost use Rattle.stretch.specs.Stretch.{AllYes, Crossed, lowestOf, mayPass, yesAt};
+ghost use Rattle.stretch.specs.Blocks.{block, classBy, shown, flippedAt, shownAt, Common};
 ghost use Rattle.stretch.specs.Outside.{outsideAt, Admits, Grown};
 
 // Glyphs that are looked at together.
 const BLOCK: usize = 8;
 
-// A walk over so many glyphs is long.
-const FAR: usize = 16;
+// How far a walk looks: where each base has one, two, three or five marks, the glyph there is a base again, so that only long lines are crossed.
+const FAR: usize = 24;
 
-// The place up to which a forward walk passes over every glyph, as far as is seen; with `next` the next place to test.
-pub fn ahead(row: &[u32], len: usize, next: usize, asked: u32, sets: &[u16]) -> usize
+// The place up to which a forward walk passes over every glyph, as far as is seen; `next` is the next place to test. What the crossing is handed, a
+// part of the row and the sets, is made where it is called: the short walks, which don't call, then keep their own slices out of memory.
+pub fn cross_ahead(row: &[u32], len: usize, next: usize, asked: u32, sets: &[u16]) -> usize
     requires { ⌜ (len ≤ length (glyphsOf (now row))) × (next ≤ len + 1) ⌝ }
-    ensures { λ r. ⌜ (next ≤ r) × (r - next ≤ len - next) × Yes (yesAt asked (now (sets .entry)) (glyphsOf (now (row .entry)))) next r ⌝ }
+    ensures { λ r. ⌜ (next ≤ r) × (r - next ≤ len - next) × AllYes (yesAt asked (now (sets .entry)) (glyphsOf (now (row .entry)))) next r ⌝ }
 {
     let far = next + (FAR - 1);
     if len <= far {
         return next;
     }
-    if !may_pass(row, far, asked) {
+    if !may_pass(asked, glyph::read(row, far).props) {
+        return next;
+    }
+    if !may_pass(asked, three(row, next)) {
         return next;
     }
     len
@@ -36,19 +38,22 @@ pub fn ahead(row: &[u32], len: usize, next: usize, asked: u32, sets: &[u16]) -> 
             len - next,
             false,
             asked,
-            own(sets),
+            anew(sets),
         )
 }
 
 // The place down to which a backward walk passes over every glyph, as far as is seen.
-pub fn behind(row: &[u32], place: usize, asked: u32, sets: &[u16]) -> usize
+pub fn cross_behind(row: &[u32], place: usize, asked: u32, sets: &[u16]) -> usize
     requires { ⌜ place ≤ length (glyphsOf (now row)) ⌝ }
-    ensures { λ r. ⌜ (r ≤ place) × Yes (yesAt asked (now (sets .entry)) (glyphsOf (now (row .entry)))) r place ⌝ }
+    ensures { λ r. ⌜ (r ≤ place) × AllYes (yesAt asked (now (sets .entry)) (glyphsOf (now (row .entry)))) r place ⌝ }
 {
     if place < FAR {
         return place;
     }
-    if !may_pass(row, place - FAR, asked) {
+    if !may_pass(asked, glyph::read(row, place - FAR).props) {
+        return place;
+    }
+    if !may_pass(asked, three(row, place - 3)) {
         return place;
     }
     left_after(
@@ -57,42 +62,48 @@ pub fn behind(row: &[u32], place: usize, asked: u32, sets: &[u16]) -> usize
         place,
         true,
         asked,
-        own(sets),
+        anew(sets),
     )
 }
 
-// The same sets. A callee takes a slice from where it stands in memory; one that is made for it, where it is called, spares the short walks two stores.
-fn own(sets: &[u16]) -> &[u16]
+// The same sets, as a slice of their own.
+fn anew(sets: &[u16]) -> &[u16]
     ensures { λ r. ⌜ now r ≡ now (sets .entry) ⌝ }
 {
     let n = sets.len();
     &sets[0..n]
 }
 
-// Whether glyph p could be passed over, for what class it is of: a look that decides the way, not the answer, for most walks are short.
-fn may_pass(row: &[u32], p: usize, asked: u32) -> bool
-    requires { ⌜ p < length (glyphsOf (now row)) ⌝ }
-    ensures { λ r. ⌜ r ≡ mayPass asked (getD (glyphsOf (now (row .entry))) p blank .props) ⌝ }
+// Whether a glyph with these props could be passed over, for what class it is of. It decides the way, not the answer, for most walks are short.
+fn may_pass(asked: u32, props: u16) -> bool
+    ensures { λ r. ⌜ r ≡ mayPass asked props ⌝ }
 {
-    let props = glyph::read(row, p).props as u32;
-    if skipping::is_ignored_class(asked, props) {
+    let x = props as u32;
+    if skipping::is_ignored_class(asked, x) {
         return true;
     }
-    (props / 8 % 2 == 1) & ((asked / 16 % 2 == 1) | (asked / 256 % 256 != 0))
+    (x / 8 % 2 == 1) & ((asked / 16 % 2 == 1) | (asked / 256 % 256 != 0))
 }
 
-// Of the places left to test, the last ones before len or, backward, the first ones of the row: how many are left after those that are seen to be
-// skip Yes, for a lookup with these props. Both directions call it, so that the compiler leaves it a function of its own, out of the short walks' way.
+// What the props of three glyphs have in common: most walks that pass over a glyph pass over no more than two.
+fn three(row: &[u32], p: usize) -> u16
+    requires { ⌜ p + 3 ≤ length (glyphsOf (now row)) ⌝ }
+{
+    glyph::read(row, p).props & glyph::read(row, p + 1).props & glyph::read(row, p + 2).props
+}
+
+// How many of the places left to test are left after those that are seen to be skip Yes. Forward they are the last places before len, backward the
+// first ones of the row. Both directions call it, so the compiler leaves it a function of its own, out of the short walks' way.
 fn left_after(row: &[u32], len: usize, left: usize, back: bool, asked: u32, sets: &[u16]) -> usize
-    requires { ⌜ (left ≤ len) × (len ≤ length (glyphsOf (now row))) ⌝ }
+    requires { ⌜ (2 * block ≤ left) × (left ≤ len) × (len ≤ length (glyphsOf (now row))) ⌝ }
     ensures { λ r. ⌜ (r ≤ left) × Crossed (yesAt asked (now (sets .entry)) (glyphsOf (now (row .entry)))) back len left r ⌝ }
 {
     // a set is named, and marks aren't ignored as a class
     if asked / 8 % 4 == 2 {
-        return after_set(row, len, left, back, asked / 65536, sets);
+        return past_set(row, len, left, back, asked / 65536, sets);
     }
     let class = class_asked(asked);
-    after_class(row, len, left, back, asked, class)
+    past_class(row, len, left, back, asked, class)
 }
 
 // The attachment class that the lookup goes by, 0 if it goes by none.
@@ -116,26 +127,26 @@ fn lowest(len: usize, left: usize, back: bool, n: usize) -> usize
 
 // ---- a block at a time, by classes
 
-// With no class asked nothing is turned: the compiler makes a loop of its own of that, in which a glyph takes one instruction less.
-fn after_class(row: &[u32], len: usize, left: usize, back: bool, asked: u32, class: u16) -> usize
+// With no class asked nothing is flipped: the compiler makes a loop of its own of that, in which a glyph takes one instruction less.
+fn past_class(row: &[u32], len: usize, left: usize, back: bool, asked: u32, class: u16) -> usize
     requires { ⌜ (left ≤ len) × (len ≤ length (glyphsOf (now row))) × (class < 256) ⌝ }
-    ensures { λ r. ⌜ (r ≤ left) × Crossed (toldAt asked class (glyphsOf (now (row .entry)))) back len left r ⌝ }
+    ensures { λ r. ⌜ (r ≤ left) × Crossed (shownAt asked class (glyphsOf (now (row .entry)))) back len left r ⌝ }
 {
     if class == 0 {
-        return after_blocks(row, len, left, back, asked, 0);
+        return past_blocks(row, len, left, back, asked, 0);
     }
-    after_blocks(row, len, left, back, asked, class)
+    past_blocks(row, len, left, back, asked, class)
 }
 
 // How many places are left after the blocks that one look each tells to be skip Yes.
-fn after_blocks(row: &[u32], len: usize, left: usize, back: bool, asked: u32, class: u16) -> usize
+fn past_blocks(row: &[u32], len: usize, left: usize, back: bool, asked: u32, class: u16) -> usize
     requires { ⌜ (left ≤ len) × (len ≤ length (glyphsOf (now row))) × (class < 256) ⌝ }
-    ensures { λ r. ⌜ (r ≤ left) × Crossed (toldAt asked class (glyphsOf (now (row .entry)))) back len left r ⌝ }
+    ensures { λ r. ⌜ (r ≤ left) × Crossed (shownAt asked class (glyphsOf (now (row .entry)))) back len left r ⌝ }
 {
     let mut rest = left;
     while BLOCK <= rest {
         let p = lowest(len, rest, back, BLOCK);
-        if !is_told(asked, class, shared(row, p, class)) {
+        if !is_shown(asked, class, shared(row, p, class)) {
             return rest;
         }
         rest -= BLOCK;
@@ -143,18 +154,18 @@ fn after_blocks(row: &[u32], len: usize, left: usize, back: bool, asked: u32, cl
     rest
 }
 
-// Whether props in which the class asked was turned tell of a glyph that it is skip Yes.
-fn is_told(asked: u32, class: u16, turned: u16) -> bool
-    ensures { λ r. ⌜ r ≡ told asked class turned ⌝ }
+// Whether props in which the class asked was flipped tell of a glyph that it is skip Yes.
+fn is_shown(asked: u32, class: u16, flipped: u16) -> bool
+    ensures { λ r. ⌜ r ≡ shown asked class flipped ⌝ }
 {
-    let x = turned as u32;
+    let x = flipped as u32;
     skipping::is_ignored_class(asked, x) | ((class != 0) & (x / 8 % 2 == 1) & (256 <= x))
 }
 
-// The bits that a block's props have in common, once those of `class` are turned.
+// The bits that a block's props have in common, once those of `class` are flipped.
 fn shared(row: &[u32], p: usize, class: u16) -> u16
     requires { ⌜ (p + block ≤ length (glyphsOf (now row))) × (class < 256) ⌝ }
-    ensures { λ r. ⌜ Common (turnedAt class (glyphsOf (now (row .entry)))) r p (p + block) ⌝ }
+    ensures { λ r. ⌜ Common (flippedAt class (glyphsOf (now (row .entry)))) r p (p + block) ⌝ }
 {
     let other = class * 256;
     let mut all = 65535;
@@ -168,24 +179,27 @@ fn shared(row: &[u32], p: usize, class: u16) -> u16
 
 // ---- a glyph at a time, by a digest of the set that the lookup names
 
-// A digest is made once the first marks were sought pair by pair: it costs as much as some eight searches, and a mark of the set ends the stretch.
-fn after_set(row: &[u32], len: usize, left: usize, back: bool, set: u32, sets: &[u16]) -> usize
-    requires { ⌜ (left ≤ len) × (len ≤ length (glyphsOf (now row))) ⌝ }
+// Only where the first two blocks are all marks. A digest is made once the marks of one were sought pair by pair: it costs as much as some eight
+// searches, and a mark of the set ends the crossing.
+fn past_set(row: &[u32], len: usize, left: usize, back: bool, set: u32, sets: &[u16]) -> usize
+    requires { ⌜ (2 * block ≤ left) × (left ≤ len) × (len ≤ length (glyphsOf (now row))) ⌝ }
     ensures { λ r. ⌜ (r ≤ left) × Crossed (outsideAt set (now (sets .entry)) (glyphsOf (now (row .entry)))) back len left r ⌝ }
 {
-    if left < BLOCK {
+    let least = left - BLOCK;
+    let common = shared(row, lowest(len, left, back, BLOCK), 0)
+        & shared(row, lowest(len, least, back, BLOCK), 0);
+    if common / 8 % 2 != 1 {
         return left;
     }
-    let least = left - BLOCK;
-    let tried = after_outside(row, len, left, least, back, set, sets, SetDigest::full());
+    let tried = past_outside(row, len, left, least, back, set, sets, SetDigest::full());
     if least < tried {
         return tried;
     }
-    after_outside(row, len, tried, 0, back, set, sets, digest_of(sets, set))
+    past_outside(row, len, tried, 0, back, set, sets, digest_of(sets, set))
 }
 
 // How many places are left, `least` or more, after the marks outside the set.
-fn after_outside(
+fn past_outside(
     row: &[u32],
     len: usize,
     left: usize,

@@ -1,5 +1,5 @@
 -- The code's side: a walk goes on after what it passes over.
-use Prim.Native.Nat.{ℕ, zero, suc, _+_, _-_, _≤_, _<_}
+use Prim.Native.Nat.{ℕ, zero, suc, _+_, _-_, _≤_}
 use mathlib.Core.List.{List}
 use mathlib.Core.Path.{_≡_, sym, ap, _∙_}
 use native.Mathlib.Omega.{arith}
@@ -12,9 +12,9 @@ use Rattle.verdict.specs.declared.Verdict.{Verdict}
 use Rattle.verdict.specs.declared.Verdict.the-variants.{Skip}
 use Rattle.verdict.specs.Verdict.{skipYes, judgeAt}
 use Rattle.verdict.specs.Laws.{verdict-yes}
-use Rattle.stretch.specs.Stretch.{yesAt, Yes}
+use Rattle.stretch.specs.Stretch.{yesAt, AllYes}
 use Rattle.walk.specs.Walk.{walkFrom, walkBack}
-use Rattle.walk.specs.Steps.{walk-turn, back-turn}
+use Rattle.walk.specs.Steps.{walk-on-by, back-on-by}
 use Rattle.walk.specs.Means.{Passed}
 
 module _ (v : ℕ → Verdict) where
@@ -22,7 +22,7 @@ module _ (v : ℕ → Verdict) where
   past zero len next l h = let s : next ≡ next + 0 = omega arith in ap (walkFrom v len) s
   past (suc n) len next l h =
       let s : next + 1 + n ≡ next + suc n = omega arith in
-      walk-turn v len next (omega arith) Skip (h next (omega arith) (omega arith))
+      walk-on-by v len next (omega arith) Skip (h next (omega arith) (omega arith))
       ∙ past n len (next + 1) (omega arith) (λ k i j. h k (omega arith) (omega arith))
       ∙ ap (walkFrom v len) s
 
@@ -36,7 +36,7 @@ module _ (v : ℕ → Verdict) where
   past-back zero place l h = let s : place ≡ place - 0 = omega arith in ap (walkBack v) s
   past-back (suc n) place l h =
       let s : place - 1 - n ≡ place - suc n = omega arith in
-      back-turn v place (place - 1) (omega arith) Skip (h (place - 1) (omega arith) (omega arith))
+      back-on-by v place (place - 1) (omega arith) Skip (h (place - 1) (omega arith) (omega arith))
       ∙ past-back n (place - 1) (omega arith) (λ k i j. h k (omega arith) (omega arith))
       ∙ ap (walkBack v) s
 
@@ -46,7 +46,7 @@ module _ (v : ℕ → Verdict) where
       past-back (place - earlier) place (omega arith) (λ k i j. h k (omega arith) j) ∙ ap (walkBack v) s
 
 -- a stretch of places that are skip Yes is passed over
-pub stretch-passed : (m : Matcher) (sign : Sign) (syllable : ℕ) (sets : List ℕ) (gs : List Glyph) (a b : ℕ) → Yes (yesAt (m .props) sets gs) a b
+pub stretch-passed : (m : Matcher) (sign : Sign) (syllable : ℕ) (sets : List ℕ) (gs : List Glyph) (a b : ℕ) → AllYes (yesAt (m .props) sets gs) a b
     → Passed (judgeAt m sign syllable sets gs) a b
 unfolding skipYes
 stretch-passed m sign syllable sets gs a b h i l g = verdict-yes m sign syllable sets (getD gs i blank) (h i l g)

@@ -14,8 +14,8 @@ module _ (v : ℕ → Verdict) (len next : ℕ) where
       ap (λ (n : ℕ). walk v n next) left
 
   -- a turn whose verdict is r
-  pub walk-turn : next < len → (r : Verdict) → v next ≡ r → walkFrom v len next ≡ after r next (walkFrom v len (next + 1))
-  walk-turn h r e = walk-on h ∙ ap (λ (r : Verdict). after r next (walkFrom v len (next + 1))) e
+  pub walk-on-by : next < len → (r : Verdict) → v next ≡ r → walkFrom v len next ≡ after r next (walkFrom v len (next + 1))
+  walk-on-by h r e = walk-on h ∙ ap (λ (r : Verdict). after r next (walkFrom v len (next + 1))) e
 
   pub walk-end : len ≤ next → walkFrom v len next ≡ RanOut next
   unfolding walkFrom walk
@@ -28,8 +28,8 @@ module _ (v : ℕ → Verdict) (place : ℕ) where
   unfolding walkBack
   back-on p e = ap (walkBack v) e
 
-  pub back-turn : (p : ℕ) → place ≡ suc p → (r : Verdict) → v p ≡ r → walkBack v place ≡ afterBack r p (walkBack v p)
-  back-turn p h r e = back-on p h ∙ ap (λ (r : Verdict). afterBack r p (walkBack v p)) e
+  pub back-on-by : (p : ℕ) → place ≡ suc p → (r : Verdict) → v p ≡ r → walkBack v place ≡ afterBack r p (walkBack v p)
+  back-on-by p h r e = back-on p h ∙ ap (λ (r : Verdict). afterBack r p (walkBack v p)) e
 
   pub back-end : place ≡ 0 → walkBack v place ≡ RanOut 0
   unfolding walkBack

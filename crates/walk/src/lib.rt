@@ -36,7 +36,7 @@ pub fn forward(
     if is_bad_walk(row, len, place, sets) {
         return Walked::Refused;
     }
-    let from = stretch::ahead(row, len, place + 1, m.props, sets);
+    let from = stretch::cross_ahead(row, len, place + 1, m.props, sets);
     forward_on(row, len, from, m, sign, syllable, sets)
 }
 
@@ -54,7 +54,7 @@ pub fn backward(
     if is_bad_walk(row, glyph::count(row), place, sets) {
         return Walked::Refused;
     }
-    let from = stretch::behind(row, place, m.props, sets);
+    let from = stretch::cross_behind(row, place, m.props, sets);
     backward_from(row, from, m, sign, syllable, sets)
 }
 
@@ -65,7 +65,8 @@ fn is_bad_walk(row: &[u32], len: usize, place: usize, sets: &[u16]) -> bool
     glyph::is_ill_shaped(row) | (glyph::count(row) < len) | (len < place) | glyph::is_odd(sets)
 }
 
-// The forward walk from a place on. It is `forward_from` once more: where each has one caller the compiler puts the loop there, and a call costs 2 to 5 ns.
+// The forward walk from a place on: `forward_from` once more, for speed. With one caller each, the compiler puts both loops where they are called; a
+// call would cost 2 to 5 ns.
 fn forward_on(
     row: &[u32],
     len: usize,
@@ -122,8 +123,8 @@ pub fn back_extent(p: usize) -> usize
     if p == 0 { 0 } else { p - 1 }
 }
 
-// The backward walk: the next place to test is the one before `place`. A glyph is read anew where it isn't skip Yes, for the compiler then loads no more
-// than its props for one that is.
+// The backward walk: the next place to test is the one before `place`. A glyph that isn't skip Yes is read anew, so that the compiler loads only the
+// props of one that is.
 pub fn backward_from(
     row: &[u32],
     place: usize,

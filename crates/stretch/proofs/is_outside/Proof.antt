@@ -21,7 +21,8 @@ returns-2 c =
     let a = start .args in
     let g = c .before .before .before .before .read in
     let asked = c .before .may-have in
-    let out = not-admitted (a .d) (a .sets .now) (a .set) (g .result .id) (start .pre .1) (sym (asked .ensures) ∙ not-true (asked .result) (c .if2 .taken)) in
+    let no = sym (asked .ensures) ∙ not-true (asked .result) (c .if2 .taken) in
+    let out = not-admitted (a .d) (a .sets .now) (a .set) (g .result .id) (start .pre .1) no in
     rw (← g .ensures, eq-eqb _ _ (c .before .before .if1 .left), out)
 
 in-set-requires : tie.Need-in-set-requires

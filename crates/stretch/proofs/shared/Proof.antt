@@ -7,13 +7,13 @@ use lib.Bits.{bitXor}
 use Rattle.glyph.specs.declared.Glyph.{Glyph}
 use Rattle.glyph.specs.Glyph.{glyphsOf}
 use Rattle.glyph.specs.Laws.{length-glyphsOf}
-use Rattle.stretch.specs.Blocks.{turnedAt, Common, common-none, common-more}
+use Rattle.stretch.specs.Blocks.{flippedAt, Common, common-none, common-more}
 use Rattle.stretch.proofs.shared.Statement.{statement}
 use Rattle.stretch.proofs.shared.Tie as tie
 
 abbrev Inv-loop : tie.InvT-loop
 Inv-loop row p class other all₀ k₀ all k =
-    (k ≤ 8) × Common (turnedAt class (glyphsOf row)) all p (p + k)
+    (k ≤ 8) × Common (flippedAt class (glyphsOf row)) all p (p + k)
 
 abbrev μ-loop : tie.MeasureT-loop
 μ-loop row p class other all₀ k₀ all k = 8 - k
@@ -24,7 +24,7 @@ mul-other c = search needs
 loop-holds : tie.Need-loop-holds Inv-loop μ-loop
 loop-holds c =
     let a = c .before .args in
-    (omega arith, common-none (turnedAt (a .class) (glyphsOf (a .row .now))) (a .p) (a .p + 0) 65535 (omega arith))
+    (omega arith, common-none (flippedAt (a .class) (glyphsOf (a .row .now))) (a .p) (a .p + 0) 65535 (omega arith))
 
 add-read : tie.Need-add-read Inv-loop μ-loop
 add-read c = let a = c .before .before .before .args in omega (arith, length-glyphsOf (a .row .now))
@@ -43,7 +43,7 @@ loop-again c =
     let a = c .before .before .before .before .before .args in
     let l = c .before .before .before .loop in (
       omega arith,
-      common-more (turnedAt (a .class) (glyphsOf (a .row .now))) (a .p) (a .p + l .k) (l .all) _ _
+      common-more (flippedAt (a .class) (glyphsOf (a .row .now))) (a .p) (a .p + l .k) (l .all) _ _
           (ap (λ (g : Glyph). bitXor (g .props) (a .class * 256)) (c .before .read .ensures)) (omega arith) (l .inv .1),
     )
 

@@ -30,11 +30,11 @@ module _ (e : tie.Else1) where
       let told = rw (e .before .before .count .ensures) at (e .before .is-bad-walk .ensures) in
       good-walk (a .row .now) (length (glyphsOf (a .row .now))) (a .place) (a .sets .now) (sym told ∙ e .if1 .left) .0
 
-behind-requires : tie.Need-behind-requires
-behind-requires c κs = good c
+cross-behind-requires : tie.Need-cross-behind-requires
+cross-behind-requires c κs = good c
 
 backward-from-requires : tie.Need-backward-from-requires
-backward-from-requires c κs = omega (arith, good (c .before), c .behind .ensures .0)
+backward-from-requires c κs = omega (arith, good (c .before), c .cross-behind .ensures .0)
 
 returns-2 : tie.Need-returns-2
 unfolding backwardOf
@@ -43,8 +43,8 @@ returns-2 c =
     let a = e .before .before .before .before .before .args in
     let gs = glyphsOf (a .row .now) in
     let v = judgeAt (a .m) (a .sign) (a .syllable) (a .sets .now) gs in
-    let from = c .before .behind .result in
-    let seen = c .before .behind .ensures in
+    let from = c .before .cross-behind .result in
+    let seen = c .before .cross-behind .ensures in
     let over = stretch-passed (a .m) (a .sign) (a .syllable) (a .sets .now) gs from (a .place) (seen .1) in
     rw (← e .before .before .count .ensures, ← e .before .is-bad-walk .ensures, e .if1 .left)
     (c .backward-from .ensures ∙ sym (walk-past-back v (a .place) from (seen .0) over))
@@ -52,4 +52,4 @@ returns-2 c =
 pub backward-spec : {M : Type 1} → statement M
 backward-spec =
     tie.close
-    (tie.spec count-requires is-bad-walk-requires returns behind-requires backward-from-requires returns-2)
+    (tie.spec count-requires is-bad-walk-requires returns cross-behind-requires backward-from-requires returns-2)

@@ -12,7 +12,7 @@ use Rattle.verdict.specs.Verdict.{skipYes, restOf, judgeAt}
 use Rattle.verdict.specs.Laws.{judged-yes, judged-rest}
 use Rattle.walk.specs.declared.Walked.the-variants.{Stopped}
 use Rattle.walk.specs.Walk.{afterBack, walkBack}
-use Rattle.walk.specs.Steps.{back-turn, back-end}
+use Rattle.walk.specs.Steps.{back-on-by, back-end}
 use Rattle.walk.proofs.backward_from.Statement.{statement}
 use Rattle.walk.proofs.backward_from.Tie as tie
 
@@ -55,7 +55,7 @@ module _ (c : tie.After-is-skip-yes Inv-loop μ-loop) where
       → walkBack judge (c .before .before .before .before .before .before .args .place) ≡ afterBack r tested (walkBack judge tested)
   turn r e =
       let l = c .before .before .before .loop in
-      l .inv .1 ∙ back-turn judge (l .left) tested (omega arith) r e
+      l .inv .1 ∙ back-on-by judge (l .left) tested (omega arith) r e
 
   -- what was asked of the glyph that was read
   asked : c .is-skip-yes .result
@@ -72,7 +72,8 @@ module _ (c : tie.After-on-rest Inv-loop μ-loop) where
       let d = c .before .before .before in
       let a = d .before .before .before .before .before .before .args in
       let gs = glyphsOf (a .row .now) in
-      judged-rest (a .m) (a .sign) (a .syllable) (a .sets .now) gs (tested d) (getD gs (tested d) blank) (d .is-skip-yes .result) (c .on-rest .result) refl (asked d)
+      judged-rest (a .m) (a .sign) (a .syllable) (a .sets .now) gs (tested d) (getD gs (tested d) blank)
+      (d .is-skip-yes .result) (c .on-rest .result) refl (asked d)
       (not-true (d .is-skip-yes .result) (c .before .before .if1 .taken))
       (c .on-rest .ensures ∙ ap (restOf (a .m) (a .sign) (a .syllable)) (c .before .read2 .ensures))
       ∙ e

@@ -28,11 +28,11 @@ module _ (e : tie.Else1) where
       let a = e .before .before .before .before .args in
       good-walk (a .row .now) (a .len) (a .place) (a .sets .now) (sym (e .before .is-bad-walk .ensures) ∙ e .if1 .left)
 
-add-ahead : tie.Need-add-ahead
-add-ahead c = omega (arith, good c .0, good c .1, length-glyphsOf (c .before .before .before .before .args .row .now))
+add-cross-ahead : tie.Need-add-cross-ahead
+add-cross-ahead c = omega (arith, good c .0, good c .1, length-glyphsOf (c .before .before .before .before .args .row .now))
 
-ahead-requires : tie.Need-ahead-requires
-ahead-requires c κs = (good c .1, omega (arith, good c .0))
+cross-ahead-requires : tie.Need-cross-ahead-requires
+cross-ahead-requires c κs = (good c .1, omega (arith, good c .0))
 
 forward-on-requires : tie.Need-forward-on-requires
 forward-on-requires c κs = good (c .before) .1
@@ -44,8 +44,8 @@ returns-2 c =
     let a = e .before .before .before .before .args in
     let gs = glyphsOf (a .row .now) in
     let v = judgeAt (a .m) (a .sign) (a .syllable) (a .sets .now) gs in
-    let from = c .before .ahead .result in
-    let seen = c .before .ahead .ensures in
+    let from = c .before .cross-ahead .result in
+    let seen = c .before .cross-ahead .ensures in
     let over = stretch-passed (a .m) (a .sign) (a .syllable) (a .sets .now) gs (a .place + 1) from (seen .2) in
     rw (← e .before .is-bad-walk .ensures, e .if1 .left)
     (c .forward-on .ensures ∙ sym (walk-past v (a .len) (a .place + 1) from (seen .0) (seen .1) over))
@@ -53,4 +53,4 @@ returns-2 c =
 pub forward-spec : {M : Type 1} → statement M
 forward-spec =
     tie.close
-    (tie.spec is-bad-walk-requires returns add-ahead ahead-requires forward-on-requires returns-2)
+    (tie.spec is-bad-walk-requires returns add-cross-ahead cross-ahead-requires forward-on-requires returns-2)

@@ -8,7 +8,7 @@ use Rattle.glyph.specs.Glyph.{glyphsOf}
 use Rattle.verdict.specs.declared.Verdict.{Verdict}
 use Rattle.verdict.specs.Verdict.{verdict, judgeAt}
 use Rattle.walk.specs.Walk.{after, walkFrom}
-use Rattle.walk.specs.Steps.{walk-turn, walk-end}
+use Rattle.walk.specs.Steps.{walk-on-by, walk-end}
 use Rattle.walk.proofs.forward_on.Statement.{statement}
 use Rattle.walk.proofs.forward_on.Tie as tie
 
@@ -46,7 +46,7 @@ module _ (c : tie.After-judge Inv-loop μ-loop) where
   turn r e =
       let a = c .before .before .before .before .before .before .args in
       let told = c .judge .ensures ∙ ap (verdict (a .m) (a .sign) (a .syllable) (a .sets .now)) (c .before .read .ensures) in
-      c .before .before .before .loop .inv ∙ walk-turn judge len place (omega arith) r (sym told ∙ e)
+      c .before .before .before .loop .inv ∙ walk-on-by judge len place (omega arith) r (sym told ∙ e)
 
 enum-told : tie.Need-enum-told Inv-loop μ-loop
 enum-told c = search needs

@@ -8,8 +8,8 @@ use borrow.Author.Tests.{not-false}
 use Rattle.glyph.specs.Glyph.{glyphsOf}
 use Rattle.stretch.specs.Stretch.{Crossed, lowestOf, lowest-within, crossed-none, crossed-one}
 use Rattle.stretch.specs.Outside.{outsideAt}
-use Rattle.stretch.proofs.after_outside.Statement.{statement}
-use Rattle.stretch.proofs.after_outside.Tie as tie
+use Rattle.stretch.proofs.past_outside.Statement.{statement}
+use Rattle.stretch.proofs.past_outside.Tie as tie
 
 abbrev Inv-loop : tie.InvT-loop
 Inv-loop row len left least back set sets d rest₀ rest = (rest ≤ left) × Crossed (outsideAt set sets (glyphsOf row)) back len left rest
@@ -49,13 +49,16 @@ loop-again c =
     let a = d .before .before .before .before .before .before .args in
     let y = outsideAt (a .set) (a .sets .now) (glyphsOf (a .row .now)) in
     let out = sym (d .is-outside .ensures) ∙ not-false (d .is-outside .result) (c .if1 .left) in
-    (omega arith, crossed-one y (a .back) (a .len) (a .left) (l .rest) (omega arith) (omega arith) (d .before .lowest .result) (d .before .lowest .ensures) out (l .inv .1))
+    let at = d .before .lowest in (
+      omega arith,
+      crossed-one y (a .back) (a .len) (a .left) (l .rest) (omega arith) (omega arith) (at .result) (at .ensures) out (l .inv .1),
+    )
 
 returns-2 : tie.Need-returns-2 Inv-loop μ-loop
 returns-2 c = c .before .loop .inv
 
-pub after-outside-spec : {M : Type 1} → statement M
-after-outside-spec =
+pub past-outside-spec : {M : Type 1} → statement M
+past-outside-spec =
     tie.close
     (tie.spec
     Inv-loop

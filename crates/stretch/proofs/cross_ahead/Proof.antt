@@ -1,4 +1,5 @@
--- None, where the look says so; else the places that are left fall, and those between are skip Yes, seen in the row's first len glyphs. Assumes nothing.
+-- None, where the look says so; else the places that are left fall, and those between are skip Yes, seen in the row's first len glyphs.
+-- Assumes nothing.
 use Prim.Native.Nat.{ℕ, _-_}
 use mathlib.Core.Path.{ap, _∙_}
 use native.Mathlib.Omega.{arith}
@@ -8,8 +9,8 @@ use Rattle.glyph.specs.Glyph.{glyphsOf}
 use Rattle.glyph.specs.Laws.{length-glyphsOf}
 use Rattle.stretch.specs.Stretch.{part-yes}
 use borrow.Author.Needs.{needs}
-use Rattle.stretch.proofs.ahead.Statement.{statement}
-use Rattle.stretch.proofs.ahead.Tie as tie
+use Rattle.stretch.proofs.cross_ahead.Statement.{statement}
+use Rattle.stretch.proofs.cross_ahead.Tie as tie
 
 sub-far : tie.Need-sub-far
 sub-far c = search needs
@@ -20,11 +21,23 @@ add-far c = omega (arith, length-glyphsOf (c .before .before .args .row .now))
 returns : tie.Need-returns
 returns c = (omega arith, omega arith, λ i l g. absurd (omega arith))
 
+read-requires : tie.Need-read-requires
+read-requires c κs = search needs
+
 may-pass-requires : tie.Need-may-pass-requires
 may-pass-requires c κs = search needs
 
 returns-2 : tie.Need-returns-2
 returns-2 c = (omega arith, omega arith, λ i l g. absurd (omega arith))
+
+three-requires : tie.Need-three-requires
+three-requires c κs = search needs
+
+may-pass-requires-2 : tie.Need-may-pass-requires-2
+may-pass-requires-2 c κs = search needs
+
+returns-3 : tie.Need-returns-3
+returns-3 c = (omega arith, omega arith, λ i l g. absurd (omega arith))
 
 first-requires : tie.Need-first-requires
 first-requires c κs = search needs
@@ -32,42 +45,46 @@ first-requires c κs = search needs
 sub-left-after : tie.Need-sub-left-after
 sub-left-after c = search needs
 
-own-requires : tie.Need-own-requires
-own-requires c κs = search needs
+anew-requires : tie.Need-anew-requires
+anew-requires c κs = search needs
 
 left-after-requires : tie.Need-left-after-requires
 left-after-requires c κs =
-    let start = c .before .before .before .before .before .before .before in
+    let start = c .before .before .before .before .before .before .before .before .before .before .before in
     let a = start .args in
     let part = ap length (c .before .first .ensures) ∙ length-take-le (a .len) (glyphsOf (a .row .now)) (start .pre .0) in
-    (omega arith, omega (arith, part))
+    (omega arith, omega arith, omega (arith, part))
 
 sub-result : tie.Need-sub-result
 sub-result c = search needs
 
-returns-3 : tie.Need-returns-3
-returns-3 c =
-    let a = c .before .before .before .before .before .before .before .before .args in
+returns-4 : tie.Need-returns-4
+returns-4 c =
+    let a = c .before .before .before .before .before .before .before .before .before .before .before .before .args in
     let gs = glyphsOf (a .row .now) in
     let rest = c .left-after .result in
-    let seen = rw (c .before .own .ensures, c .before .before .first .ensures) at (c .left-after .ensures) in (
+    let seen = rw (c .before .anew .ensures, c .before .before .first .ensures) at (c .left-after .ensures) in (
       omega (arith, seen .0),
       omega arith,
       λ i l g. part-yes (a .asked) (a .sets .now) gs (a .len) (a .len - (a .len - a .next)) (a .len - rest) (omega arith) (seen .1) i (omega arith) g,
     )
 
-pub ahead-spec : {M : Type 1} → statement M
-ahead-spec =
+pub cross-ahead-spec : {M : Type 1} → statement M
+cross-ahead-spec =
     tie.close
     (tie.spec
     sub-far
     add-far
     returns
+    read-requires
     may-pass-requires
     returns-2
+    three-requires
+    may-pass-requires-2
+    returns-3
     first-requires
     sub-left-after
-    own-requires
+    anew-requires
     left-after-requires
     sub-result
-    returns-3)
+    returns-4)

@@ -5,8 +5,8 @@ use native.Mathlib.Omega.{arith}
 use lib.ListN.{length}
 use lib.Seq.{take-all}
 use borrow.Author.Needs.{needs}
-use Rattle.stretch.proofs.own.Statement.{statement}
-use Rattle.stretch.proofs.own.Tie as tie
+use Rattle.stretch.proofs.anew.Statement.{statement}
+use Rattle.stretch.proofs.anew.Tie as tie
 
 sub-result : tie.Need-sub-result
 sub-result c = search needs
@@ -20,5 +20,5 @@ part-result-end c = search needs
 returns : tie.Need-returns
 returns c = let sets = c .before .args .sets .now in take-all (length sets - 0) sets (omega arith)
 
-pub own-spec : {M : Type 1} → statement M
-own-spec = tie.close (tie.spec sub-result part-result-start part-result-end returns)
+pub anew-spec : {M : Type 1} → statement M
+anew-spec = tie.close (tie.spec sub-result part-result-start part-result-end returns)

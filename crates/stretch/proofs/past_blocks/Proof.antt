@@ -1,4 +1,4 @@
--- The places crossed so far are told to be skip Yes; each turn crosses a block. Assumes nothing.
+-- The places crossed so far are shown to be skip Yes; each turn crosses a block. Assumes nothing.
 use Prim.Native.Nat.{ℕ, _+_, _-_, _≤_, _<_}
 use mathlib.Core.Bool.{Bool, true}
 use mathlib.Core.Path.{_≡_, sym, ap, _∙_}
@@ -7,12 +7,12 @@ use borrow.Author.Needs.{needs}
 use borrow.Author.Tests.{not-false}
 use Rattle.glyph.specs.Glyph.{glyphsOf}
 use Rattle.stretch.specs.Stretch.{Crossed, lowestOf, lowest-within, crossed-none, crossed-more}
-use Rattle.stretch.specs.Blocks.{block, toldAt, told-block}
-use Rattle.stretch.proofs.after_blocks.Statement.{statement}
-use Rattle.stretch.proofs.after_blocks.Tie as tie
+use Rattle.stretch.specs.Blocks.{block, shownAt, shown-block}
+use Rattle.stretch.proofs.past_blocks.Statement.{statement}
+use Rattle.stretch.proofs.past_blocks.Tie as tie
 
 abbrev Inv-loop : tie.InvT-loop
-Inv-loop row len left back asked class rest₀ rest = (rest ≤ left) × Crossed (toldAt asked class (glyphsOf row)) back len left rest
+Inv-loop row len left back asked class rest₀ rest = (rest ≤ left) × Crossed (shownAt asked class (glyphsOf row)) back len left rest
 
 abbrev μ-loop : tie.MeasureT-loop
 μ-loop row len left back asked class rest₀ rest = rest
@@ -20,7 +20,7 @@ abbrev μ-loop : tie.MeasureT-loop
 loop-holds : tie.Need-loop-holds Inv-loop μ-loop
 loop-holds c =
     let a = c .before .args in
-    (omega arith, crossed-none (toldAt (a .asked) (a .class) (glyphsOf (a .row .now))) (a .back) (a .len) (a .left))
+    (omega arith, crossed-none (shownAt (a .asked) (a .class) (glyphsOf (a .row .now))) (a .back) (a .len) (a .left))
 
 lowest-requires : tie.Need-lowest-requires Inv-loop μ-loop
 lowest-requires c κs = search needs
@@ -32,8 +32,8 @@ shared-requires c κs =
     let w = lowest-within (a .back) (a .len) (c .before .before .loop .rest) block (omega arith) (omega arith) in
     (omega (arith, c .lowest .ensures), start .pre .2)
 
-is-told-requires : tie.Need-is-told-requires Inv-loop μ-loop
-is-told-requires c κs = search needs
+is-shown-requires : tie.Need-is-shown-requires Inv-loop μ-loop
+is-shown-requires c κs = search needs
 
 returns : tie.Need-returns Inv-loop μ-loop
 returns c = c .before .before .before .before .before .loop .inv
@@ -48,19 +48,20 @@ loop-again c =
     let at = d .before .before .lowest in
     let l = d .before .before .before .before .loop in
     let a = d .before .before .before .before .before .before .args in
-    let y = toldAt (a .asked) (a .class) (glyphsOf (a .row .now)) in
-    let told = sym (d .is-told .ensures) ∙ not-false (d .is-told .result) (c .if1 .left) in
-    let all = told-block (a .asked) (a .class) (look .result) (glyphsOf (a .row .now)) (at .result) (at .result + block) (look .ensures) told in
+    let y = shownAt (a .asked) (a .class) (glyphsOf (a .row .now)) in
+    let shown = sym (d .is-shown .ensures) ∙ not-false (d .is-shown .result) (c .if1 .left) in
+    let all = shown-block (a .asked) (a .class) (look .result) (glyphsOf (a .row .now)) (at .result) (at .result + block) (look .ensures) shown in
     let here = at .ensures in (
       omega arith,
-      crossed-more y (a .back) (a .len) (a .left) (l .rest) block (omega arith) (omega arith) (λ i w g. all i (omega arith) (omega arith)) (l .inv .1),
+      crossed-more y (a .back) (a .len) (a .left) (l .rest) block (omega arith) (omega arith)
+          (λ i w g. all i (omega arith) (omega arith)) (l .inv .1),
     )
 
 returns-2 : tie.Need-returns-2 Inv-loop μ-loop
 returns-2 c = c .before .loop .inv
 
-pub after-blocks-spec : {M : Type 1} → statement M
-after-blocks-spec =
+pub past-blocks-spec : {M : Type 1} → statement M
+past-blocks-spec =
     tie.close
     (tie.spec
     Inv-loop
@@ -68,7 +69,7 @@ after-blocks-spec =
     loop-holds
     lowest-requires
     shared-requires
-    is-told-requires
+    is-shown-requires
     returns
     loop-less
     loop-again
