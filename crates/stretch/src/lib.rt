@@ -28,7 +28,7 @@ pub fn cross_ahead(row: &[u32], len: usize, next: usize, asked: u32, sets: &[u16
     if !may_pass(asked, glyph::read(row, far).props) {
         return next;
     }
-    if !may_pass(asked, three(row, next)) {
+    if !may_pass(asked, five(row, next)) {
         return next;
     }
     len
@@ -53,7 +53,7 @@ pub fn cross_behind(row: &[u32], place: usize, asked: u32, sets: &[u16]) -> usiz
     if !may_pass(asked, glyph::read(row, place - FAR).props) {
         return place;
     }
-    if !may_pass(asked, three(row, place - 3)) {
+    if !may_pass(asked, five(row, place - 5)) {
         return place;
     }
     left_after(
@@ -85,11 +85,15 @@ fn may_pass(asked: u32, props: u16) -> bool
     (x / 8 % 2 == 1) & ((asked / 16 % 2 == 1) | (asked / 256 % 256 != 0))
 }
 
-// What the props of three glyphs have in common: most walks that pass over a glyph pass over no more than two.
-fn three(row: &[u32], p: usize) -> u16
-    requires { ⌜ p + 3 ≤ length (glyphsOf (now row)) ⌝ }
+// What the props of five glyphs have in common: hardly a base has more than four marks.
+fn five(row: &[u32], p: usize) -> u16
+    requires { ⌜ p + 5 ≤ length (glyphsOf (now row)) ⌝ }
 {
-    glyph::read(row, p).props & glyph::read(row, p + 1).props & glyph::read(row, p + 2).props
+    glyph::read(row, p).props
+        & glyph::read(row, p + 1).props
+        & glyph::read(row, p + 2).props
+        & glyph::read(row, p + 3).props
+        & glyph::read(row, p + 4).props
 }
 
 // How many of the places left to test are left after those that are seen to be skip Yes. Forward they are the last places before len, backward the

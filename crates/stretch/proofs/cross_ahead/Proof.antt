@@ -30,8 +30,8 @@ may-pass-requires c κs = search needs
 returns-2 : tie.Need-returns-2
 returns-2 c = (omega arith, omega arith, λ i l g. absurd (omega arith))
 
-three-requires : tie.Need-three-requires
-three-requires c κs = search needs
+five-requires : tie.Need-five-requires
+five-requires c κs = search needs
 
 may-pass-requires-2 : tie.Need-may-pass-requires-2
 may-pass-requires-2 c κs = search needs
@@ -79,7 +79,7 @@ cross-ahead-spec =
     read-requires
     may-pass-requires
     returns-2
-    three-requires
+    five-requires
     may-pass-requires-2
     returns-3
     first-requires

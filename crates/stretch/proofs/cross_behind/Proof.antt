@@ -22,11 +22,11 @@ may-pass-requires c κs = search needs
 returns-2 : tie.Need-returns-2
 returns-2 c = (omega arith, λ i l g. absurd (omega arith))
 
-sub-three : tie.Need-sub-three
-sub-three c = search needs
+sub-five : tie.Need-sub-five
+sub-five c = search needs
 
-three-requires : tie.Need-three-requires
-three-requires c κs = search needs
+five-requires : tie.Need-five-requires
+five-requires c κs = search needs
 
 may-pass-requires-2 : tie.Need-may-pass-requires-2
 may-pass-requires-2 c κs = search needs
@@ -62,8 +62,8 @@ cross-behind-spec =
     read-requires
     may-pass-requires
     returns-2
-    sub-three
-    three-requires
+    sub-five
+    five-requires
     may-pass-requires-2
     returns-3
     first-requires
