@@ -9,9 +9,10 @@ use borrow.Author.Tests.{ltb-true, ltb-false}
 use lib.Dec.{eqb, ltb}
 use lib.ListN.{getD, take}
 use lib.Seq.{getD-take}
+use Rattle.bits.specs.Bits.{bit}
 use Rattle.glyph.specs.declared.Glyph.{Glyph}
 use Rattle.glyph.specs.Glyph.{blank}
-use Rattle.verdict.specs.Verdict.{ignoredClass, isMark, usesSet, classAsked, otherMark}
+use Rattle.verdict.specs.Verdict.{ignoredClass, usesSet, classAsked, otherMark}
 
 -- skip Yes, of which a matcher's props alone decide; and the places of a list of glyphs that are
 abbrev pub yesOf : ℕ → List ℕ → Glyph → Bool
@@ -20,9 +21,9 @@ yesOf asked sets g = ignoredClass asked (g .props) || otherMark asked sets (g .p
 abbrev pub yesAt : ℕ → List ℕ → List Glyph → ℕ → Bool
 yesAt asked sets gs i = yesOf asked sets (getD gs i blank)
 
--- a glyph that may be: of an ignored class, or a mark where a set or a class is asked
-abbrev pub mayPass : ℕ → ℕ → Bool
-mayPass asked props = ignoredClass asked props || (isMark props && (usesSet asked || not (eqb (classAsked asked) 0)))
+-- a lookup that passes over some marks: it ignores them, or names a set, or asks a class
+abbrev pub mayPassMarks : ℕ → Bool
+mayPassMarks asked = (bit 3 asked || usesSet asked) || not (eqb (classAsked asked) 0)
 
 -- every place from a on and before b
 abbrev pub AllYes : (ℕ → Bool) → ℕ → ℕ → Type 0

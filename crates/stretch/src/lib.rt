@@ -5,14 +5,16 @@ ghost use mathlib.Core.Path.{_≡_};
 ghost use Prim.Native.Nat.{_+_, _-_, _*_, _/_, _≤_, _<_};
 ghost use lib.ListN.{length, getD};
 ghost use Rattle.glyph.specs.Glyph.{glyphsOf, blank};
-ghost use Rattle.stretch.specs.Stretch.{AllYes, Crossed, lowestOf, mayPass, yesAt};
+ghost use Rattle.verdict.specs.Verdict.{isMark};
+ghost use Rattle.stretch.specs.Stretch.{AllYes, Crossed, lowestOf, mayPassMarks, yesAt};
 ghost use Rattle.stretch.specs.Blocks.{block, classBy, shown, flippedAt, shownAt, Common};
 ghost use Rattle.stretch.specs.Outside.{outsideAt, Admits, Grown};
 
 // Glyphs that are looked at together.
 const BLOCK: usize = 8;
 
-// How far a walk looks: where each base has one, two, three or five marks, the glyph there is a base again, so that only long lines are crossed.
+// How far a walk looks. It looks at the glyph there first, and then at the ninth, tenth and fourteenth: where each base has as many marks, one to nine,
+// one of the four is a base again, so that only long lines are crossed.
 const FAR: usize = 24;
 
 // The place up to which a forward walk passes over every glyph, as far as is seen; `next` is the next place to test. What the crossing is handed, a
@@ -25,10 +27,10 @@ pub fn cross_ahead(row: &[u32], len: usize, next: usize, asked: u32, sets: &[u16
     if len <= far {
         return next;
     }
-    if !may_pass(asked, glyph::read(row, far).props) {
+    if !is_mark(glyph::read(row, far).props) {
         return next;
     }
-    if !may_pass(asked, five(row, next)) {
+    if !(is_mark(common(row, next + 8, next + 9, next + 13)) & may_pass_marks(asked)) {
         return next;
     }
     len
@@ -50,10 +52,10 @@ pub fn cross_behind(row: &[u32], place: usize, asked: u32, sets: &[u16]) -> usiz
     if place < FAR {
         return place;
     }
-    if !may_pass(asked, glyph::read(row, place - FAR).props) {
+    if !is_mark(glyph::read(row, place - FAR).props) {
         return place;
     }
-    if !may_pass(asked, five(row, place - 5)) {
+    if !(is_mark(common(row, place - 9, place - 10, place - 14)) & may_pass_marks(asked)) {
         return place;
     }
     left_after(
@@ -74,26 +76,24 @@ fn anew(sets: &[u16]) -> &[u16]
     &sets[0..n]
 }
 
-// Whether a glyph with these props could be passed over, for what class it is of. It decides the way, not the answer, for most walks are short.
-fn may_pass(asked: u32, props: u16) -> bool
-    ensures { λ r. ⌜ r ≡ mayPass asked props ⌝ }
+fn is_mark(props: u16) -> bool
+    ensures { λ r. ⌜ r ≡ isMark props ⌝ }
 {
-    let x = props as u32;
-    if skipping::is_ignored_class(asked, x) {
-        return true;
-    }
-    (x / 8 % 2 == 1) & ((asked / 16 % 2 == 1) | (asked / 256 % 256 != 0))
+    props / 8 % 2 == 1
 }
 
-// What the props of five glyphs have in common: hardly a base has more than four marks.
-fn five(row: &[u32], p: usize) -> u16
-    requires { ⌜ p + 5 ≤ length (glyphsOf (now row)) ⌝ }
+// What the props of three glyphs have in common. Like the look before it, it decides the way and not the answer.
+fn common(row: &[u32], a: usize, b: usize, c: usize) -> u16
+    requires { ⌜ (a < length (glyphsOf (now row))) × (b < length (glyphsOf (now row))) × (c < length (glyphsOf (now row))) ⌝ }
 {
-    glyph::read(row, p).props
-        & glyph::read(row, p + 1).props
-        & glyph::read(row, p + 2).props
-        & glyph::read(row, p + 3).props
-        & glyph::read(row, p + 4).props
+    glyph::read(row, a).props & glyph::read(row, b).props & glyph::read(row, c).props
+}
+
+// Whether the lookup passes over some marks: it ignores them, or names a set, or asks a class.
+fn may_pass_marks(asked: u32) -> bool
+    ensures { λ r. ⌜ r ≡ mayPassMarks asked ⌝ }
+{
+    (asked / 8 % 2 == 1) | (asked / 16 % 2 == 1) | (asked / 256 % 256 != 0)
 }
 
 // How many of the places left to test are left after those that are seen to be skip Yes. Forward they are the last places before len, backward the

@@ -124,7 +124,7 @@ pub fn back_extent(p: usize) -> usize
 }
 
 // The backward walk: the next place to test is the one before `place`. A glyph that isn't skip Yes is read anew, so that the compiler loads only the
-// props of one that is.
+// props of one that is. Where the walk ends is asked last, so that the place is all that is counted.
 pub fn backward_from(
     row: &[u32],
     place: usize,
@@ -136,16 +136,21 @@ pub fn backward_from(
     requires { ⌜ place ≤ length (glyphsOf (now row)) ⌝ }
     ensures { λ r. ⌜ r ≡ walkBack (judgeAt m sign syllable (now (sets .entry)) (glyphsOf (now (row .entry)))) place ⌝ }
 {
-    let mut left = place;
-    while 0 < left {
-        left -= 1;
-        if !skipping::is_skip_yes(m, sets, glyph::read(row, left)) {
-            match judging::on_rest(m, sign, syllable, glyph::read(row, left)) {
-                Verdict::Match => return Walked::Found(left),
-                Verdict::NotMatch => return Walked::Stopped(back_extent(left)),
+    if place == 0 {
+        return Walked::RanOut(place);
+    }
+    let mut p = place - 1;
+    loop {
+        if !skipping::is_skip_yes(m, sets, glyph::read(row, p)) {
+            match judging::on_rest(m, sign, syllable, glyph::read(row, p)) {
+                Verdict::Match => return Walked::Found(p),
+                Verdict::NotMatch => return Walked::Stopped(back_extent(p)),
                 Verdict::Skip => {}
             }
         }
+        if p == 0 {
+            return Walked::RanOut(0);
+        }
+        p -= 1;
     }
-    Walked::RanOut(0)
 }

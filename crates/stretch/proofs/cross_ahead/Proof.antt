@@ -24,17 +24,29 @@ returns c = (omega arith, omega arith, λ i l g. absurd (omega arith))
 read-requires : tie.Need-read-requires
 read-requires c κs = search needs
 
-may-pass-requires : tie.Need-may-pass-requires
-may-pass-requires c κs = search needs
+is-mark-requires : tie.Need-is-mark-requires
+is-mark-requires c κs = search needs
 
 returns-2 : tie.Need-returns-2
 returns-2 c = (omega arith, omega arith, λ i l g. absurd (omega arith))
 
-five-requires : tie.Need-five-requires
-five-requires c κs = search needs
+add-common : tie.Need-add-common
+add-common c = search needs
 
-may-pass-requires-2 : tie.Need-may-pass-requires-2
-may-pass-requires-2 c κs = search needs
+add-common-2 : tie.Need-add-common-2
+add-common-2 c = search needs
+
+add-common-3 : tie.Need-add-common-3
+add-common-3 c = search needs
+
+common-requires : tie.Need-common-requires
+common-requires c κs = search needs
+
+is-mark-requires-2 : tie.Need-is-mark-requires-2
+is-mark-requires-2 c κs = search needs
+
+may-pass-marks-requires : tie.Need-may-pass-marks-requires
+may-pass-marks-requires c κs = search needs
 
 returns-3 : tie.Need-returns-3
 returns-3 c = (omega arith, omega arith, λ i l g. absurd (omega arith))
@@ -50,7 +62,7 @@ anew-requires c κs = search needs
 
 left-after-requires : tie.Need-left-after-requires
 left-after-requires c κs =
-    let start = c .before .before .before .before .before .before .before .before .before .before .before in
+    let start = c .before .before .before .before .before .before .before .before .before .before .before .before in
     let a = start .args in
     let part = ap length (c .before .first .ensures) ∙ length-take-le (a .len) (glyphsOf (a .row .now)) (start .pre .0) in
     (omega arith, omega arith, omega (arith, part))
@@ -60,7 +72,7 @@ sub-result c = search needs
 
 returns-4 : tie.Need-returns-4
 returns-4 c =
-    let a = c .before .before .before .before .before .before .before .before .before .before .before .before .args in
+    let a = c .before .before .before .before .before .before .before .before .before .before .before .before .before .args in
     let gs = glyphsOf (a .row .now) in
     let rest = c .left-after .result in
     let seen = rw (c .before .anew .ensures, c .before .before .first .ensures) at (c .left-after .ensures) in (
@@ -77,10 +89,14 @@ cross-ahead-spec =
     add-far
     returns
     read-requires
-    may-pass-requires
+    is-mark-requires
     returns-2
-    five-requires
-    may-pass-requires-2
+    add-common
+    add-common-2
+    add-common-3
+    common-requires
+    is-mark-requires-2
+    may-pass-marks-requires
     returns-3
     first-requires
     sub-left-after

@@ -16,20 +16,29 @@ returns c = (omega arith, λ i l g. absurd (omega arith))
 read-requires : tie.Need-read-requires
 read-requires c κs = search needs
 
-may-pass-requires : tie.Need-may-pass-requires
-may-pass-requires c κs = search needs
+is-mark-requires : tie.Need-is-mark-requires
+is-mark-requires c κs = search needs
 
 returns-2 : tie.Need-returns-2
 returns-2 c = (omega arith, λ i l g. absurd (omega arith))
 
-sub-five : tie.Need-sub-five
-sub-five c = search needs
+sub-common : tie.Need-sub-common
+sub-common c = search needs
 
-five-requires : tie.Need-five-requires
-five-requires c κs = search needs
+sub-common-2 : tie.Need-sub-common-2
+sub-common-2 c = search needs
 
-may-pass-requires-2 : tie.Need-may-pass-requires-2
-may-pass-requires-2 c κs = search needs
+sub-common-3 : tie.Need-sub-common-3
+sub-common-3 c = search needs
+
+common-requires : tie.Need-common-requires
+common-requires c κs = search needs
+
+is-mark-requires-2 : tie.Need-is-mark-requires-2
+is-mark-requires-2 c κs = search needs
+
+may-pass-marks-requires : tie.Need-may-pass-marks-requires
+may-pass-marks-requires c κs = search needs
 
 returns-3 : tie.Need-returns-3
 returns-3 c = (omega arith, λ i l g. absurd (omega arith))
@@ -42,14 +51,14 @@ anew-requires c κs = search needs
 
 left-after-requires : tie.Need-left-after-requires
 left-after-requires c κs =
-    let start = c .before .before .before .before .before .before .before .before .before .before .before in
+    let start = c .before .before .before .before .before .before .before .before .before .before .before .before in
     let a = start .args in
     let part = ap length (c .before .first .ensures) ∙ length-take-le (a .place) (glyphsOf (a .row .now)) (start .pre) in
     (omega arith, omega arith, omega (arith, part))
 
 returns-4 : tie.Need-returns-4
 returns-4 c =
-    let a = c .before .before .before .before .before .before .before .before .before .before .before .before .args in
+    let a = c .before .before .before .before .before .before .before .before .before .before .before .before .before .args in
     let rest = c .left-after .result in
     let seen = rw (c .before .anew .ensures, c .before .before .first .ensures) at (c .left-after .ensures) in
     (seen .0, part-yes (a .asked) (a .sets .now) (glyphsOf (a .row .now)) (a .place) rest (a .place) (omega arith) (seen .1))
@@ -60,11 +69,14 @@ cross-behind-spec =
     (tie.spec
     returns
     read-requires
-    may-pass-requires
+    is-mark-requires
     returns-2
-    sub-five
-    five-requires
-    may-pass-requires-2
+    sub-common
+    sub-common-2
+    sub-common-3
+    common-requires
+    is-mark-requires-2
+    may-pass-marks-requires
     returns-3
     first-requires
     anew-requires

@@ -1,6 +1,7 @@
--- The walk back from where it began is the walk back from what is left: what is between was passed over. Each turn tests one place.
+-- The walk back from where it began is the walk back from after p, the next place to test: what is between was passed over. Each turn tests one place.
 -- Assumes nothing.
-use Prim.Native.Nat.{ℕ, _-_, _≤_}
+use Prim.Native.Nat.{ℕ, _+_, _-_, _<_}
+use mathlib.Core.Logic.{⊎-elim}
 use mathlib.Core.Path.{_≡_, refl, sym, ap, _∙_}
 use native.Mathlib.Omega.{arith}
 use borrow.Author.Needs.{needs}
@@ -8,26 +9,37 @@ use borrow.Author.Tests.{not-true, not-false}
 use lib.ListN.{getD}
 use Rattle.glyph.specs.Glyph.{glyphsOf, blank}
 use Rattle.verdict.specs.declared.Verdict.{Verdict}
+use Rattle.verdict.specs.declared.Verdict.the-variants.{Skip}
 use Rattle.verdict.specs.Verdict.{skipYes, restOf, judgeAt}
 use Rattle.verdict.specs.Laws.{judged-yes, judged-rest}
-use Rattle.walk.specs.declared.Walked.the-variants.{Stopped}
+use Rattle.walk.specs.declared.Walked.the-variants.{Stopped, RanOut}
 use Rattle.walk.specs.Walk.{afterBack, walkBack}
 use Rattle.walk.specs.Steps.{back-on-by, back-end}
 use Rattle.walk.proofs.backward_from.Statement.{statement}
 use Rattle.walk.proofs.backward_from.Tie as tie
 
 abbrev Inv-loop : tie.InvT-loop
-Inv-loop row place m sign syllable sets left₀ left =
-    (left ≤ place) × (walkBack (judgeAt m sign syllable sets (glyphsOf row)) place ≡ walkBack (judgeAt m sign syllable sets (glyphsOf row)) left)
+Inv-loop row place m sign syllable sets p₀ p =
+    (p < place) × (walkBack (judgeAt m sign syllable sets (glyphsOf row)) place ≡ walkBack (judgeAt m sign syllable sets (glyphsOf row)) (p + 1))
 
 abbrev μ-loop : tie.MeasureT-loop
-μ-loop row place m sign syllable sets left₀ left = left
+μ-loop row place m sign syllable sets p₀ p = p
+
+returns : tie.Need-returns Inv-loop μ-loop
+returns c =
+    let a = c .before .before .before .args in
+    let v = judgeAt (a .m) (a .sign) (a .syllable) (a .sets .now) (glyphsOf (a .row .now)) in
+    ap RanOut (c .if1 .taken) ∙ sym (back-end v (a .place) (c .if1 .taken))
+
+sub-p : tie.Need-sub-p Inv-loop μ-loop
+sub-p c = search needs
 
 loop-holds : tie.Need-loop-holds Inv-loop μ-loop
-loop-holds c = (omega arith, refl)
-
-sub-left : tie.Need-sub-left Inv-loop μ-loop
-sub-left c = search needs
+loop-holds c =
+    let a = c .before .before .before .args in
+    let v = judgeAt (a .m) (a .sign) (a .syllable) (a .sets .now) (glyphsOf (a .row .now)) in
+    let s : a .place ≡ a .place - 1 + 1 = omega arith in
+    (omega arith, ap (walkBack v) s)
 
 read-requires : tie.Need-read-requires Inv-loop μ-loop
 read-requires c κs = search needs
@@ -48,14 +60,14 @@ module _ (c : tie.After-is-skip-yes Inv-loop μ-loop) where
       judgeAt (a .m) (a .sign) (a .syllable) (a .sets .now) (glyphsOf (a .row .now))
 
   abbrev tested : ℕ
-  tested = c .before .before .before .loop .left - 1
+  tested = c .before .before .loop .p
 
   -- a turn whose verdict is r
   turn : (r : Verdict) → judge tested ≡ r
       → walkBack judge (c .before .before .before .before .before .before .args .place) ≡ afterBack r tested (walkBack judge tested)
   turn r e =
-      let l = c .before .before .before .loop in
-      l .inv .1 ∙ back-on-by judge (l .left) tested (omega arith) r e
+      let l = c .before .before .loop in
+      l .inv .1 ∙ back-on-by judge (l .p + 1) tested (omega arith) r e
 
   -- what was asked of the glyph that was read
   asked : c .is-skip-yes .result
@@ -74,15 +86,15 @@ module _ (c : tie.After-on-rest Inv-loop μ-loop) where
       let gs = glyphsOf (a .row .now) in
       judged-rest (a .m) (a .sign) (a .syllable) (a .sets .now) gs (tested d) (getD gs (tested d) blank)
       (d .is-skip-yes .result) (c .on-rest .result) refl (asked d)
-      (not-true (d .is-skip-yes .result) (c .before .before .if1 .taken))
+      (not-true (d .is-skip-yes .result) (c .before .before .if2 .taken))
       (c .on-rest .ensures ∙ ap (restOf (a .m) (a .sign) (a .syllable)) (c .before .read2 .ensures))
       ∙ e
 
 enum-told : tie.Need-enum-told Inv-loop μ-loop
 enum-told c = search needs
 
-returns : tie.Need-returns Inv-loop μ-loop
-returns c = let e = c .before .before in sym (turn (e .before .before .before) _ (told e _ (c .enum-told .given .1)))
+returns-2 : tie.Need-returns-2 Inv-loop μ-loop
+returns-2 c = let e = c .before .before in sym (turn (e .before .before .before) _ (told e _ (c .enum-told .given .1)))
 
 enum-told-2 : tie.Need-enum-told-2 Inv-loop μ-loop
 enum-told-2 c = search needs
@@ -90,8 +102,8 @@ enum-told-2 c = search needs
 back-extent-requires : tie.Need-back-extent-requires Inv-loop μ-loop
 back-extent-requires c κs = search needs
 
-returns-2 : tie.Need-returns-2 Inv-loop μ-loop
-returns-2 c =
+returns-3 : tie.Need-returns-3 Inv-loop μ-loop
+returns-3 c =
     let d = c .before in
     let e = d .before .before in
     ap Stopped (c .back-extent .ensures) ∙ sym (turn (e .before .before .before) _ (told e _ (d .enum-told2 .given .1)))
@@ -99,31 +111,38 @@ returns-2 c =
 enum-told-3 : tie.Need-enum-told-3 Inv-loop μ-loop
 enum-told-3 c = search needs
 
+-- where a turn comes to its end the place was passed over, whichever way it came
+module _ (c : tie.Joined2 Inv-loop μ-loop) where
+  skipped : judge (c .before) (tested (c .before)) ≡ Skip
+  skipped =
+      let d = c .before in
+      ⊎-elim
+      (λ w. told (record { before = record { before = record { before = d; if2 = w .0 }; read2 = w .1 }; on-rest = w .2 }) Skip (w .4 .given .1))
+      (λ w.
+      let a = d .before .before .before .before .before .before .args in
+      let gs = glyphsOf (a .row .now) in
+      judged-yes (a .m) (a .sign) (a .syllable) (a .sets .now) gs (tested d) (getD gs (tested d) blank) (d .is-skip-yes .result) refl (asked d)
+      (not-false (d .is-skip-yes .result) (w .left)))
+      (c .if2 .came)
+
+  passed : walkBack (judge (c .before)) (c .before .before .before .before .before .before .before .args .place)
+      ≡ walkBack (judge (c .before)) (tested (c .before))
+  passed = turn (c .before) Skip skipped
+
+returns-4 : tie.Need-returns-4 Inv-loop μ-loop
+returns-4 c = let d = c .before .before in sym (passed (c .before) ∙ back-end (judge d) (tested d) (c .if3 .taken))
+
+sub-p-2 : tie.Need-sub-p-2 Inv-loop μ-loop
+sub-p-2 c = search needs
+
 loop-less : tie.Need-loop-less Inv-loop μ-loop
 loop-less c = search needs
 
 loop-again : tie.Need-loop-again Inv-loop μ-loop
-loop-again c = let e = c .before .before in (omega arith, turn (e .before .before .before) _ (told e _ (c .enum-told3 .given .1)))
-
-loop-less-2 : tie.Need-loop-less-2 Inv-loop μ-loop
-loop-less-2 c = search needs
-
-loop-again-2 : tie.Need-loop-again-2 Inv-loop μ-loop
-loop-again-2 c =
-    let d = c .before in
-    let a = d .before .before .before .before .before .before .args in
-    let gs = glyphsOf (a .row .now) in (
-      omega arith,
-      turn d _
-          (judged-yes (a .m) (a .sign) (a .syllable) (a .sets .now) gs (tested d) (getD gs (tested d) blank) (d .is-skip-yes .result) refl (asked d)
-          (not-false (d .is-skip-yes .result) (c .if1 .left))),
-    )
-
-returns-3 : tie.Need-returns-3 Inv-loop μ-loop
-returns-3 c =
-    let a = c .before .before .before .before .args in
-    let v = judgeAt (a .m) (a .sign) (a .syllable) (a .sets .now) (glyphsOf (a .row .now)) in
-    sym (c .before .loop .inv .1 ∙ back-end v (c .before .loop .left) (omega arith))
+loop-again c =
+    let d = c .before .before in
+    let s : tested d ≡ tested d - 1 + 1 = omega arith in
+    (omega arith, passed (c .before) ∙ ap (walkBack (judge d)) s)
 
 pub backward-from-spec : {M : Type 1} → statement M
 backward-from-spec =
@@ -131,20 +150,20 @@ backward-from-spec =
     (tie.spec
     Inv-loop
     μ-loop
+    returns
+    sub-p
     loop-holds
-    sub-left
     read-requires
     is-skip-yes-requires
     read-requires-2
     on-rest-requires
     enum-told
-    returns
+    returns-2
     enum-told-2
     back-extent-requires
-    returns-2
+    returns-3
     enum-told-3
+    returns-4
+    sub-p-2
     loop-less
-    loop-again
-    loop-less-2
-    loop-again-2
-    returns-3)
+    loop-again)
