@@ -1,5 +1,5 @@
-//! Long walks: two dozen glyphs and more are passed over one after the other,
-//! which our walk crosses quickly (crates/stretch).
+//! Long walks: sixteen glyphs and more are passed over one after the other, which
+//! our walk crosses quickly (crates/stretch) where those that it looks at are marks.
 use super::{glyph, Asker, Case, Way, ALPHABET, WAYS};
 use crate::draw;
 use crate::random::Random;
@@ -14,12 +14,24 @@ const MARK: Glyph = glyph(9, 1, 0, 0, 0x108);
 const OTHER_MARK: Glyph = glyph(8, 1, 0, 0, 0x108);
 const MARK_OF_2: Glyph = glyph(9, 1, 0, 0, 0x208);
 
+/// Two blocks of marks, one of bases, one of ligatures.
+const BLOCKS: [Glyph; 32] = {
+    let mut glyphs = [MARK; 32];
+    let mut i = 16;
+    while i < 32 {
+        glyphs[i] = if i < 24 { BASE } else { LIGATURE };
+        i += 1;
+    }
+    glyphs
+};
+
 /// A lookup and glyphs that it passes over as skip Yes, taken by turns.
-const PASSED: [(u32, &[Glyph]); 10] = [
+const PASSED: [(u32, &[Glyph]); 11] = [
     (8, &[MARK]),
     (2, &[BASE]),
     (4, &[LIGATURE]),
     (0xE, &[MARK, BASE, LIGATURE]), // no bit in common
+    (0xE, &BLOCKS),
     (0x200, &[MARK]),
     (0x300, &[MARK, MARK_OF_2]), // no bit of the class in common, once 3 is turned
     (0xA00, &[MARK, OTHER_MARK]),
@@ -37,11 +49,11 @@ fn setup(props: u32, sets: Vec<u16>) -> Setup {
     Setup { mask: 1, props, sets, ..Setup::default() }
 }
 
-/// Lengths round three blocks, four and five, as they are and with every glyph of
-/// the alphabet in each place; a glyph to be found stands at either end.
+/// Lengths round two blocks, three, four, five and six, as they are and with every
+/// glyph of the alphabet in each place; a glyph to be found stands at either end.
 pub fn every(asker: &mut Asker) {
     for (props, passed) in PASSED {
-        for count in [23, 24, 25, 31, 32, 33, 40, 41] {
+        for count in [15, 16, 17, 23, 24, 25, 31, 32, 33, 40, 41, 48, 49] {
             let glyphs: Vec<Glyph> = passed.iter().cycle().take(count).copied().collect();
             let row = [&[FOUND][..], &glyphs, &[FOUND]].concat();
             let case = Case::new(setup(props, sets()), row, count + 2, 0);
@@ -61,8 +73,8 @@ pub fn every(asker: &mut Asker) {
 /// Up to 200 glyphs with up to three otherwise, under drawn settings.
 pub fn random(asker: &mut Asker, random: &mut Random) {
     let (props, passed) = random.pick(&PASSED);
-    let most = if random.one_in(8) { 177 } else { 40 };
-    let count = 24 + random.below(most) as usize;
+    let most = if random.one_in(8) { 187 } else { 50 };
+    let count = 14 + random.below(most) as usize;
     let mut row: Vec<Glyph> = passed.iter().cycle().take(count).copied().collect();
     for _ in 0..random.below(4) {
         let place = random.below(count as u64) as usize;

@@ -13,9 +13,9 @@ ghost use Rattle.stretch.specs.Outside.{outsideAt, Admits, Grown};
 // Glyphs that are looked at together.
 const BLOCK: usize = 8;
 
-// How far a walk looks. It looks at the glyph there first, and then at the ninth, tenth and fourteenth: where each base has as many marks, one to nine,
-// one of the four is a base again, so that only long lines are crossed.
-const FAR: usize = 24;
+// What a walk must have left to cross anything: two blocks. It looks at the twelfth glyph first, and then at the ninth, tenth and sixteenth. Where each base
+// has as many marks, one to nine but six, one of the four is a base again, so that only long lines are crossed.
+const FAR: usize = 16;
 
 // The place up to which a forward walk passes over every glyph, as far as is seen; `next` is the next place to test. What the crossing is handed, a
 // part of the row and the sets, is made where it is called: the short walks, which don't call, then keep their own slices out of memory.
@@ -23,14 +23,13 @@ pub fn cross_ahead(row: &[u32], len: usize, next: usize, asked: u32, sets: &[u16
     requires { ⌜ (len ≤ length (glyphsOf (now row))) × (next ≤ len + 1) ⌝ }
     ensures { λ r. ⌜ (next ≤ r) × (r - next ≤ len - next) × AllYes (yesAt asked (now (sets .entry)) (glyphsOf (now (row .entry)))) next r ⌝ }
 {
-    let far = next + (FAR - 1);
-    if len <= far {
+    if len < next + FAR {
         return next;
     }
-    if !is_mark(glyph::read(row, far).props) {
+    if !is_mark(glyph::read(row, next + 11).props) {
         return next;
     }
-    if !(is_mark(common(row, next + 8, next + 9, next + 13)) & may_pass_marks(asked)) {
+    if !(is_mark(common(row, next + 8, next + 9, next + 15)) & may_pass_marks(asked)) {
         return next;
     }
     len
@@ -52,10 +51,10 @@ pub fn cross_behind(row: &[u32], place: usize, asked: u32, sets: &[u16]) -> usiz
     if place < FAR {
         return place;
     }
-    if !is_mark(glyph::read(row, place - FAR).props) {
+    if !is_mark(glyph::read(row, place - 12).props) {
         return place;
     }
-    if !(is_mark(common(row, place - 9, place - 10, place - 14)) & may_pass_marks(asked)) {
+    if !(is_mark(common(row, place - 9, place - 10, place - 16)) & may_pass_marks(asked)) {
         return place;
     }
     left_after(

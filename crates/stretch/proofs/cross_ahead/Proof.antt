@@ -12,14 +12,14 @@ use borrow.Author.Needs.{needs}
 use Rattle.stretch.proofs.cross_ahead.Statement.{statement}
 use Rattle.stretch.proofs.cross_ahead.Tie as tie
 
-sub-far : tie.Need-sub-far
-sub-far c = search needs
-
-add-far : tie.Need-add-far
-add-far c = omega (arith, length-glyphsOf (c .before .before .args .row .now))
+add-if1 : tie.Need-add-if1
+add-if1 c = omega (arith, length-glyphsOf (c .before .before .args .row .now))
 
 returns : tie.Need-returns
 returns c = (omega arith, omega arith, λ i l g. absurd (omega arith))
+
+add-read : tie.Need-add-read
+add-read c = search needs
 
 read-requires : tie.Need-read-requires
 read-requires c κs = search needs
@@ -85,9 +85,9 @@ pub cross-ahead-spec : {M : Type 1} → statement M
 cross-ahead-spec =
     tie.close
     (tie.spec
-    sub-far
-    add-far
+    add-if1
     returns
+    add-read
     read-requires
     is-mark-requires
     returns-2

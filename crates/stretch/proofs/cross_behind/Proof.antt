@@ -13,6 +13,9 @@ use Rattle.stretch.proofs.cross_behind.Tie as tie
 returns : tie.Need-returns
 returns c = (omega arith, λ i l g. absurd (omega arith))
 
+sub-read : tie.Need-sub-read
+sub-read c = search needs
+
 read-requires : tie.Need-read-requires
 read-requires c κs = search needs
 
@@ -27,9 +30,6 @@ sub-common c = search needs
 
 sub-common-2 : tie.Need-sub-common-2
 sub-common-2 c = search needs
-
-sub-common-3 : tie.Need-sub-common-3
-sub-common-3 c = search needs
 
 common-requires : tie.Need-common-requires
 common-requires c κs = search needs
@@ -68,12 +68,12 @@ cross-behind-spec =
     tie.close
     (tie.spec
     returns
+    sub-read
     read-requires
     is-mark-requires
     returns-2
     sub-common
     sub-common-2
-    sub-common-3
     common-requires
     is-mark-requires-2
     may-pass-marks-requires
