@@ -124,7 +124,8 @@ pub fn back_extent(p: usize) -> usize
 }
 
 // The backward walk: the next place to test is the one before `place`. A glyph that isn't skip Yes is read anew, so that the compiler loads only the
-// props of one that is. Where the walk ends is asked last, so that the place is all that is counted.
+// props of one that is. It asks at the end of a turn whether the place was the first, and takes the first one otherwise than the next: the compiler then
+// counts the place once, not twice.
 pub fn backward_from(
     row: &[u32],
     place: usize,
@@ -136,10 +137,10 @@ pub fn backward_from(
     requires { ⌜ place ≤ length (glyphsOf (now row)) ⌝ }
     ensures { λ r. ⌜ r ≡ walkBack (judgeAt m sign syllable (now (sets .entry)) (glyphsOf (now (row .entry)))) place ⌝ }
 {
+    let mut p = back_extent(place);
     if place == 0 {
-        return Walked::RanOut(place);
+        return Walked::RanOut(p);
     }
-    let mut p = place - 1;
     loop {
         if !skipping::is_skip_yes(m, sets, glyph::read(row, p)) {
             match judging::on_rest(m, sign, syllable, glyph::read(row, p)) {

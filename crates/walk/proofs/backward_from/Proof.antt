@@ -1,6 +1,6 @@
 -- The walk back from where it began is the walk back from after p, the next place to test: what is between was passed over. Each turn tests one place.
 -- Assumes nothing.
-use Prim.Native.Nat.{ℕ, _+_, _-_, _<_}
+use Prim.Native.Nat.{ℕ, _+_, _-_, _<_, max}
 use mathlib.Core.Logic.{⊎-elim}
 use mathlib.Core.Path.{_≡_, refl, sym, ap, _∙_}
 use native.Mathlib.Omega.{arith}
@@ -25,21 +25,21 @@ Inv-loop row place m sign syllable sets p₀ p =
 abbrev μ-loop : tie.MeasureT-loop
 μ-loop row place m sign syllable sets p₀ p = p
 
+back-extent-requires : tie.Need-back-extent-requires Inv-loop μ-loop
+back-extent-requires c κs = search needs
+
 returns : tie.Need-returns Inv-loop μ-loop
 returns c =
-    let a = c .before .before .before .args in
+    let a = c .before .before .before .before .args in
     let v = judgeAt (a .m) (a .sign) (a .syllable) (a .sets .now) (glyphsOf (a .row .now)) in
-    ap RanOut (c .if1 .taken) ∙ sym (back-end v (a .place) (c .if1 .taken))
-
-sub-p : tie.Need-sub-p Inv-loop μ-loop
-sub-p c = search needs
+    ap RanOut (c .before .back-extent .ensures ∙ ap (λ n. max n 1 - 1) (c .if1 .taken)) ∙ sym (back-end v (a .place) (c .if1 .taken))
 
 loop-holds : tie.Need-loop-holds Inv-loop μ-loop
 loop-holds c =
-    let a = c .before .before .before .args in
+    let a = c .before .before .before .before .args in
     let v = judgeAt (a .m) (a .sign) (a .syllable) (a .sets .now) (glyphsOf (a .row .now)) in
-    let s : a .place ≡ a .place - 1 + 1 = omega arith in
-    (omega arith, ap (walkBack v) s)
+    let s : a .place ≡ c .before .back-extent .result + 1 = omega (arith, c .before .back-extent .ensures) in
+    (omega (arith, s), ap (walkBack v) s)
 
 read-requires : tie.Need-read-requires Inv-loop μ-loop
 read-requires c κs = search needs
@@ -56,7 +56,7 @@ on-rest-requires c κs = search needs
 module _ (c : tie.After-is-skip-yes Inv-loop μ-loop) where
   abbrev judge : ℕ → Verdict
   judge =
-      let a = c .before .before .before .before .before .before .args in
+      let a = c .before .before .before .before .before .before .before .args in
       judgeAt (a .m) (a .sign) (a .syllable) (a .sets .now) (glyphsOf (a .row .now))
 
   abbrev tested : ℕ
@@ -64,17 +64,17 @@ module _ (c : tie.After-is-skip-yes Inv-loop μ-loop) where
 
   -- a turn whose verdict is r
   turn : (r : Verdict) → judge tested ≡ r
-      → walkBack judge (c .before .before .before .before .before .before .args .place) ≡ afterBack r tested (walkBack judge tested)
+      → walkBack judge (c .before .before .before .before .before .before .before .args .place) ≡ afterBack r tested (walkBack judge tested)
   turn r e =
       let l = c .before .before .loop in
       l .inv .1 ∙ back-on-by judge (l .p + 1) tested (omega arith) r e
 
   -- what was asked of the glyph that was read
   asked : c .is-skip-yes .result
-      ≡ skipYes (c .before .before .before .before .before .before .args .m) (c .before .before .before .before .before .before .args .sets .now)
-      (getD (glyphsOf (c .before .before .before .before .before .before .args .row .now)) tested blank)
+      ≡ skipYes (c .before .before .before .before .before .before .before .args .m) (c .before .before .before .before .before .before .before .args .sets .now)
+      (getD (glyphsOf (c .before .before .before .before .before .before .before .args .row .now)) tested blank)
   asked =
-      let a = c .before .before .before .before .before .before .args in
+      let a = c .before .before .before .before .before .before .before .args in
       c .is-skip-yes .ensures ∙ ap (skipYes (a .m) (a .sets .now)) (c .before .read .ensures)
 
 -- what the rest says is the verdict
@@ -82,7 +82,7 @@ module _ (c : tie.After-on-rest Inv-loop μ-loop) where
   told : (r : Verdict) → c .on-rest .result ≡ r → judge (c .before .before .before) (tested (c .before .before .before)) ≡ r
   told r e =
       let d = c .before .before .before in
-      let a = d .before .before .before .before .before .before .args in
+      let a = d .before .before .before .before .before .before .before .args in
       let gs = glyphsOf (a .row .now) in
       judged-rest (a .m) (a .sign) (a .syllable) (a .sets .now) gs (tested d) (getD gs (tested d) blank)
       (d .is-skip-yes .result) (c .on-rest .result) refl (asked d)
@@ -99,14 +99,14 @@ returns-2 c = let e = c .before .before in sym (turn (e .before .before .before)
 enum-told-2 : tie.Need-enum-told-2 Inv-loop μ-loop
 enum-told-2 c = search needs
 
-back-extent-requires : tie.Need-back-extent-requires Inv-loop μ-loop
-back-extent-requires c κs = search needs
+back-extent-requires-2 : tie.Need-back-extent-requires-2 Inv-loop μ-loop
+back-extent-requires-2 c κs = search needs
 
 returns-3 : tie.Need-returns-3 Inv-loop μ-loop
 returns-3 c =
     let d = c .before in
     let e = d .before .before in
-    ap Stopped (c .back-extent .ensures) ∙ sym (turn (e .before .before .before) _ (told e _ (d .enum-told2 .given .1)))
+    ap Stopped (c .back-extent2 .ensures) ∙ sym (turn (e .before .before .before) _ (told e _ (d .enum-told2 .given .1)))
 
 enum-told-3 : tie.Need-enum-told-3 Inv-loop μ-loop
 enum-told-3 c = search needs
@@ -119,21 +119,21 @@ module _ (c : tie.Joined2 Inv-loop μ-loop) where
       ⊎-elim
       (λ w. told (record { before = record { before = record { before = d; if2 = w .0 }; read2 = w .1 }; on-rest = w .2 }) Skip (w .4 .given .1))
       (λ w.
-      let a = d .before .before .before .before .before .before .args in
+      let a = d .before .before .before .before .before .before .before .args in
       let gs = glyphsOf (a .row .now) in
       judged-yes (a .m) (a .sign) (a .syllable) (a .sets .now) gs (tested d) (getD gs (tested d) blank) (d .is-skip-yes .result) refl (asked d)
       (not-false (d .is-skip-yes .result) (w .left)))
       (c .if2 .came)
 
-  passed : walkBack (judge (c .before)) (c .before .before .before .before .before .before .before .args .place)
+  passed : walkBack (judge (c .before)) (c .before .before .before .before .before .before .before .before .args .place)
       ≡ walkBack (judge (c .before)) (tested (c .before))
   passed = turn (c .before) Skip skipped
 
 returns-4 : tie.Need-returns-4 Inv-loop μ-loop
 returns-4 c = let d = c .before .before in sym (passed (c .before) ∙ back-end (judge d) (tested d) (c .if3 .taken))
 
-sub-p-2 : tie.Need-sub-p-2 Inv-loop μ-loop
-sub-p-2 c = search needs
+sub-p : tie.Need-sub-p Inv-loop μ-loop
+sub-p c = search needs
 
 loop-less : tie.Need-loop-less Inv-loop μ-loop
 loop-less c = search needs
@@ -150,8 +150,8 @@ backward-from-spec =
     (tie.spec
     Inv-loop
     μ-loop
+    back-extent-requires
     returns
-    sub-p
     loop-holds
     read-requires
     is-skip-yes-requires
@@ -160,10 +160,10 @@ backward-from-spec =
     enum-told
     returns-2
     enum-told-2
-    back-extent-requires
+    back-extent-requires-2
     returns-3
     enum-told-3
     returns-4
-    sub-p-2
+    sub-p
     loop-less
     loop-again)
