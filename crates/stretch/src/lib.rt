@@ -15,7 +15,7 @@ const BLOCK: usize = 8;
 
 // What a walk must have left to cross anything: two blocks. It looks at the twelfth glyph first, and then at the ninth, tenth and sixteenth. Where each base
 // has as many marks, one to nine but six, one of the four is a base again, so that only long lines are crossed.
-const FAR: usize = 16;
+const LONG: usize = 16;
 
 // The place up to which a forward walk passes over every glyph, as far as is seen; `next` is the next place to test. What the crossing is handed, a
 // part of the row and the sets, is made where it is called: the short walks, which don't call, then keep their own slices out of memory.
@@ -23,7 +23,7 @@ pub fn cross_ahead(row: &[u32], len: usize, next: usize, asked: u32, sets: &[u16
     requires { ⌜ (len ≤ length (glyphsOf (now row))) × (next ≤ len + 1) ⌝ }
     ensures { λ r. ⌜ (next ≤ r) × (r - next ≤ len - next) × AllYes (yesAt asked (now (sets .entry)) (glyphsOf (now (row .entry)))) next r ⌝ }
 {
-    if len < next + FAR {
+    if len < next + LONG {
         return next;
     }
     if !is_mark(glyph::read(row, next + 11).props) {
@@ -48,7 +48,7 @@ pub fn cross_behind(row: &[u32], place: usize, asked: u32, sets: &[u16]) -> usiz
     requires { ⌜ place ≤ length (glyphsOf (now row)) ⌝ }
     ensures { λ r. ⌜ (r ≤ place) × AllYes (yesAt asked (now (sets .entry)) (glyphsOf (now (row .entry)))) r place ⌝ }
 {
-    if place < FAR {
+    if place < LONG {
         return place;
     }
     if !is_mark(glyph::read(row, place - 12).props) {

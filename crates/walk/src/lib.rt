@@ -124,8 +124,8 @@ pub fn back_extent(p: usize) -> usize
 }
 
 // The backward walk: the next place to test is the one before `place`. A glyph that isn't skip Yes is read anew, so that the compiler loads only the
-// props of one that is. It asks at the end of a turn whether the place was the first, and takes the first one otherwise than the next: the compiler then
-// counts the place once, not twice.
+// props of one that is. The first place is taken by `back_extent`, not by a subtraction like that at the end of a turn, and the row's beginning is asked
+// for last: the compiler then counts the place once and not twice.
 pub fn backward_from(
     row: &[u32],
     place: usize,
