@@ -2,7 +2,7 @@
 // crossed is skip Yes; where the crossing ends, perhaps early, the walk goes on glyph by glyph. A walk that doesn't look to be long crosses nothing.
 use digest::SetDigest;
 ghost use mathlib.Core.Path.{_≡_};
-ghost use Prim.Native.Nat.{_+_, _-_, _*_, _/_, _≤_, _<_};
+ghost use Prim.Native.Nat.{_+_, _*_, _/_, _≤_, _<_, max};
 ghost use lib.ListN.{length, getD};
 ghost use Rattle.glyph.specs.Glyph.{glyphsOf, blank};
 ghost use Rattle.verdict.specs.Verdict.{isMark};
@@ -21,7 +21,7 @@ const LONG: usize = 16;
 // part of the row and the sets, is made where it is called: the short walks, which don't call, then keep their own slices out of memory.
 pub fn cross_ahead(row: &[u32], len: usize, next: usize, asked: u32, sets: &[u16]) -> usize
     requires { ⌜ (len ≤ length (glyphsOf (now row))) × (next ≤ len + 1) ⌝ }
-    ensures { λ r. ⌜ (next ≤ r) × (r - next ≤ len - next) × AllYes (yesAt asked (now (sets .entry)) (glyphsOf (now (row .entry)))) next r ⌝ }
+    ensures { λ r. ⌜ (next ≤ r) × (r ≤ max len next) × AllYes (yesAt asked (now (sets .entry)) (glyphsOf (now (row .entry)))) next r ⌝ }
 {
     if len < next + LONG {
         return next;

@@ -1,5 +1,5 @@
 -- The code's side: a walk goes on after what it passes over.
-use Prim.Native.Nat.{ℕ, zero, suc, _+_, _-_, _≤_}
+use Prim.Native.Nat.{ℕ, zero, suc, _+_, _-_, _≤_, max}
 use mathlib.Core.List.{List}
 use mathlib.Core.Path.{_≡_, sym, ap, _∙_}
 use native.Mathlib.Omega.{arith}
@@ -26,11 +26,11 @@ module _ (v : ℕ → Verdict) where
       ∙ past n len (next + 1) (omega arith) (λ k i j. h k (omega arith) (omega arith))
       ∙ ap (walkFrom v len) s
 
-  pub walk-past : (len next later : ℕ) → next ≤ later → later - next ≤ len - next → Passed v next later
+  pub walk-past : (len next later : ℕ) → next ≤ later → later ≤ max len next → Passed v next later
       → walkFrom v len next ≡ walkFrom v len later
   walk-past len next later l w h =
       let s : next + (later - next) ≡ later = omega arith in
-      past (later - next) len next w (λ k i j. h k i (omega arith)) ∙ ap (walkFrom v len) s
+      past (later - next) len next (omega arith) (λ k i j. h k i (omega arith)) ∙ ap (walkFrom v len) s
 
   past-back : (n place : ℕ) → n ≤ place → Passed v (place - n) place → walkBack v place ≡ walkBack v (place - n)
   past-back zero place l h = let s : place ≡ place - 0 = omega arith in ap (walkBack v) s
