@@ -120,7 +120,7 @@ pub fn run(rounds: u32) {
     }
     println!("nanoseconds a walk to the next base, each base with as many marks, rows warm");
     for (name, props, sets) in &lookups {
-        for marks in [1, 2, 3, 4, 8] {
+        for marks in [1, 2, 3, 4, 6, 8] {
             let pointed = |from_place: usize| match from_place % (marks + 1) {
                 0 => BASE,
                 _ => MARK,

@@ -3,7 +3,7 @@
 use Prim.Native.Nat.{ℕ, _+_, _-_, _≤_, _<_}
 use mathlib.Core.List.{List}
 use mathlib.Core.Path.{_≡_, refl, sym, ap, _∙_}
-use mathlib.Core.Bool.{Bool, true, false, not, cond, _&&_, _||_}
+use mathlib.Core.Bool.{Bool, true, false, not, cond, _||_}
 use native.Mathlib.Omega.{arith}
 use borrow.Author.Tests.{ltb-true, ltb-false}
 use lib.Dec.{eqb, ltb}
@@ -14,7 +14,7 @@ use Rattle.glyph.specs.declared.Glyph.{Glyph}
 use Rattle.glyph.specs.Glyph.{blank}
 use Rattle.verdict.specs.Verdict.{ignoredClass, usesSet, classAsked, otherMark}
 
--- skip Yes, of which a matcher's props alone decide; and the places of a list of glyphs that are
+-- skip Yes; of a matcher its props alone decide it. And the places of a list of glyphs that are
 abbrev pub yesOf : ℕ → List ℕ → Glyph → Bool
 yesOf asked sets g = ignoredClass asked (g .props) || otherMark asked sets (g .props) (g .id)
 

@@ -1,10 +1,10 @@
-// Long lines of glyphs that a walk passes over, crossed quickly. It is there for speed alone: a walk answers the same without it. Each glyph that is
+// Long lines of marks that a walk passes over, crossed quickly. It is there for speed alone: a walk answers the same without it. Each glyph that is
 // crossed is skip Yes; where the crossing ends, perhaps early, the walk goes on glyph by glyph. A walk that doesn't look to be long crosses nothing.
 use digest::SetDigest;
 ghost use mathlib.Core.Path.{_≡_};
 ghost use Prim.Native.Nat.{_+_, _*_, _/_, _≤_, _<_, max};
 ghost use lib.ListN.{length, getD};
-ghost use Rattle.glyph.specs.Glyph.{glyphsOf, blank};
+ghost use Rattle.glyph.specs.Glyph.{glyphsOf};
 ghost use Rattle.verdict.specs.Verdict.{isMark};
 ghost use Rattle.stretch.specs.Stretch.{AllYes, Crossed, lowestOf, mayPassMarks, yesAt};
 ghost use Rattle.stretch.specs.Blocks.{block, classBy, shown, flippedAt, shownAt, Common};
@@ -13,8 +13,8 @@ ghost use Rattle.stretch.specs.Outside.{outsideAt, Admits, Grown};
 // Glyphs that are looked at together.
 const BLOCK: usize = 8;
 
-// What a walk must have left to cross anything: two blocks. It looks at the twelfth glyph first, and then at the ninth, tenth and sixteenth. Where each base
-// has as many marks, one to nine but six, one of the four is a base again, so that only long lines are crossed.
+// What a walk must have left to cross anything: two blocks. It looks at the twelfth glyph first, and then at the ninth, tenth and sixteenth. Where every base
+// has the same number of marks, one to nine but not six, one of the four is a base again, so that these short lines aren't taken for long ones.
 const LONG: usize = 16;
 
 // The place up to which a forward walk passes over every glyph, as far as is seen; `next` is the next place to test. What the crossing is handed, a
@@ -67,7 +67,7 @@ pub fn cross_behind(row: &[u32], place: usize, asked: u32, sets: &[u16]) -> usiz
     )
 }
 
-// The same sets, as a slice of their own.
+// The same sets, as a slice of their own; why is said at `cross_ahead`.
 fn anew(sets: &[u16]) -> &[u16]
     ensures { λ r. ⌜ now r ≡ now (sets .entry) ⌝ }
 {
@@ -81,7 +81,7 @@ fn is_mark(props: u16) -> bool
     props / 8 % 2 == 1
 }
 
-// What the props of three glyphs have in common. Like the look before it, it decides the way and not the answer.
+// What the props of three glyphs have in common. It decides the way and not the answer, so it promises nothing.
 fn common(row: &[u32], a: usize, b: usize, c: usize) -> u16
     requires { ⌜ (a < length (glyphsOf (now row))) × (b < length (glyphsOf (now row))) × (c < length (glyphsOf (now row))) ⌝ }
 {
@@ -130,7 +130,7 @@ fn lowest(len: usize, left: usize, back: bool, n: usize) -> usize
 
 // ---- a block at a time, by classes
 
-// With no class asked nothing is flipped: the compiler makes a loop of its own of that, in which a glyph takes one instruction less.
+// With no class asked nothing is flipped: the compiler makes a loop of its own of that, in which a glyph takes fewer instructions.
 fn past_class(row: &[u32], len: usize, left: usize, back: bool, asked: u32, class: u16) -> usize
     requires { ⌜ (left ≤ len) × (len ≤ length (glyphsOf (now row))) × (class < 256) ⌝ }
     ensures { λ r. ⌜ (r ≤ left) × Crossed (shownAt asked class (glyphsOf (now (row .entry)))) back len left r ⌝ }
@@ -189,9 +189,9 @@ fn past_set(row: &[u32], len: usize, left: usize, back: bool, set: u32, sets: &[
     ensures { λ r. ⌜ (r ≤ left) × Crossed (outsideAt set (now (sets .entry)) (glyphsOf (now (row .entry)))) back len left r ⌝ }
 {
     let least = left - BLOCK;
-    let common = shared(row, lowest(len, left, back, BLOCK), 0)
+    let marks = shared(row, lowest(len, left, back, BLOCK), 0)
         & shared(row, lowest(len, least, back, BLOCK), 0);
-    if common / 8 % 2 != 1 {
+    if marks / 8 % 2 != 1 {
         return left;
     }
     let tried = past_outside(row, len, left, least, back, set, sets, SetDigest::full());
@@ -201,7 +201,7 @@ fn past_set(row: &[u32], len: usize, left: usize, back: bool, set: u32, sets: &[
     past_outside(row, len, tried, 0, back, set, sets, digest_of(sets, set))
 }
 
-// How many places are left, `least` or more, after the marks outside the set.
+// How many places are left after the marks outside the set; it goes no further than `least`.
 fn past_outside(
     row: &[u32],
     len: usize,

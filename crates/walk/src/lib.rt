@@ -125,7 +125,7 @@ pub fn back_extent(p: usize) -> usize
 
 // The backward walk: the next place to test is the one before `place`. A glyph that isn't skip Yes is read anew, so that the compiler loads only the
 // props of one that is. The first place is taken by `back_extent`, not by a subtraction like that at the end of a turn, and the row's beginning is asked
-// for last: the compiler then counts the place once and not twice.
+// for last: the compiler then keeps one counter for the place and not two.
 pub fn backward_from(
     row: &[u32],
     place: usize,
@@ -139,7 +139,7 @@ pub fn backward_from(
 {
     let mut p = back_extent(place);
     if place == 0 {
-        return Walked::RanOut(p);
+        return Walked::RanOut(p); // which is 0
     }
     loop {
         if !skipping::is_skip_yes(m, sets, glyph::read(row, p)) {

@@ -1,4 +1,4 @@
--- None, where the look says so; else the places that are left fall, and those between are skip Yes, seen in the row's first len glyphs.
+-- None, where a look says so; else the places that are left fall, and those between are skip Yes, seen in the row's first len glyphs.
 -- Assumes nothing.
 use Prim.Native.Nat.{ℕ, _-_}
 use mathlib.Core.Path.{ap, _∙_}

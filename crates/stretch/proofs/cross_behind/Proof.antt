@@ -1,4 +1,4 @@
--- None, where the look says so; else the places that are left fall, and those between are skip Yes, seen in the glyphs before the place.
+-- None, where a look says so; else the places that are left fall, and those between are skip Yes, seen in the glyphs before the place.
 -- Assumes nothing.
 use mathlib.Core.Path.{ap, _∙_}
 use native.Mathlib.Omega.{arith}
