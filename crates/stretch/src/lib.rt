@@ -13,8 +13,8 @@ ghost use Rattle.stretch.specs.Outside.{outsideAt, Admits, Grown};
 // Glyphs that are looked at together.
 const BLOCK: usize = 8;
 
-// What a walk must have left to cross anything: two blocks. It looks at the twelfth glyph first, and then at the ninth, tenth and sixteenth. Where every base
-// has the same number of marks, one to nine but not six, one of the four is a base again, so that these short lines aren't taken for long ones.
+// What a walk must have left to cross anything: two blocks. It looks at the twelfth glyph first, and then at the ninth, tenth, fourteenth and sixteenth. Where
+// every base has the same number of marks, one to nine, one of the five is a base again, so that these short lines aren't taken for long ones.
 const LONG: usize = 16;
 
 // The place up to which a forward walk passes over every glyph, as far as is seen; `next` is the next place to test. What the crossing is handed, a
@@ -29,7 +29,7 @@ pub fn cross_ahead(row: &[u32], len: usize, next: usize, asked: u32, sets: &[u16
     if !is_mark(glyph::read(row, next + 11).props) {
         return next;
     }
-    if !(is_mark(common(row, next + 8, next + 9, next + 15)) & may_pass_marks(asked)) {
+    if !(is_mark(common(row, next + 8, next + 9, next + 13, next + 15)) & may_pass_marks(asked)) {
         return next;
     }
     len
@@ -54,7 +54,8 @@ pub fn cross_behind(row: &[u32], place: usize, asked: u32, sets: &[u16]) -> usiz
     if !is_mark(glyph::read(row, place - 12).props) {
         return place;
     }
-    if !(is_mark(common(row, place - 9, place - 10, place - 16)) & may_pass_marks(asked)) {
+    if !(is_mark(common(row, place - 9, place - 10, place - 14, place - 16))
+        & may_pass_marks(asked)) {
         return place;
     }
     left_after(
@@ -81,11 +82,14 @@ fn is_mark(props: u16) -> bool
     props / 8 % 2 == 1
 }
 
-// What the props of three glyphs have in common. It decides the way and not the answer, so it promises nothing.
-fn common(row: &[u32], a: usize, b: usize, c: usize) -> u16
-    requires { ⌜ (a < length (glyphsOf (now row))) × (b < length (glyphsOf (now row))) × (c < length (glyphsOf (now row))) ⌝ }
+// What the props of four glyphs have in common. It decides the way and not the answer, so it promises nothing.
+fn common(row: &[u32], a: usize, b: usize, c: usize, d: usize) -> u16
+    requires { ⌜ (a < length (glyphsOf (now row))) × (b < length (glyphsOf (now row))) × (c < length (glyphsOf (now row))) × (d < length (glyphsOf (now row))) ⌝ }
 {
-    glyph::read(row, a).props & glyph::read(row, b).props & glyph::read(row, c).props
+    glyph::read(row, a).props
+        & glyph::read(row, b).props
+        & glyph::read(row, c).props
+        & glyph::read(row, d).props
 }
 
 // Whether the lookup passes over some marks: it ignores them, or names a set, or asks a class.

@@ -39,6 +39,9 @@ add-common-2 c = search needs
 add-common-3 : tie.Need-add-common-3
 add-common-3 c = search needs
 
+add-common-4 : tie.Need-add-common-4
+add-common-4 c = search needs
+
 common-requires : tie.Need-common-requires
 common-requires c κs = search needs
 
@@ -94,6 +97,7 @@ cross-ahead-spec =
     add-common
     add-common-2
     add-common-3
+    add-common-4
     common-requires
     is-mark-requires-2
     may-pass-marks-requires

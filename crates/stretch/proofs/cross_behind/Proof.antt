@@ -31,6 +31,9 @@ sub-common c = search needs
 sub-common-2 : tie.Need-sub-common-2
 sub-common-2 c = search needs
 
+sub-common-3 : tie.Need-sub-common-3
+sub-common-3 c = search needs
+
 common-requires : tie.Need-common-requires
 common-requires c κs = search needs
 
@@ -74,6 +77,7 @@ cross-behind-spec =
     returns-2
     sub-common
     sub-common-2
+    sub-common-3
     common-requires
     is-mark-requires-2
     may-pass-marks-requires
