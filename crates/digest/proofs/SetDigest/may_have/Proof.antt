@@ -1,69 +1,87 @@
--- A turn tests one mask more that has the glyph's bit. Assumes nothing.
-use mathlib.Core.Bool.{Bool, true, not, _&&_}
+-- The first mask is asked by itself, the other two together. Assumes nothing.
+use mathlib.Core.Bool.{Bool, true, _&&_}
+use mathlib.Core.List.{List}
 use mathlib.Core.Path.{_≡_, refl, sym, ap, _∙_}
-use Prim.Native.Nat.{ℕ, _-_, _%_, _≤_}
+use Prim.Native.Nat.{ℕ, _/_, _%_, _^_}
 use native.Mathlib.Omega.{arith}
 use lib.ListN.{getD}
-use borrow.Author.Tests.{not-true}
-use Rattle.bits.specs.Bits.{bit, every, some}
+use borrow.Author.Tests.{not-true, not-false}
+use Rattle.bits.specs.Bits.{bit, every}
 use Rattle.bits.specs.Laws.{every-not}
-use Rattle.digest.specs.Digest.{place}
-use Rattle.digest.proofs.Masks.{every-none, every-more, every-done}
+use Rattle.digest.specs.Digest.{shift, place}
 use borrow.Author.Needs.{needs}
 use Rattle.digest.proofs.SetDigest.may_have.Statement.{statement}
 use Rattle.digest.proofs.SetDigest.may_have.Tie as tie
 
-abbrev Inv-loop : tie.InvT-loop
-Inv-loop g masks i₀ i = (i ≤ 3) × (every i (λ j. bit (place j g) (getD masks j 0)) ≡ true)
+-- mask i has the glyph's bit
+abbrev Has : List ℕ → ℕ → ℕ → Bool
+Has masks g i = bit (place i g) (getD masks i 0)
 
-abbrev μ-loop : tie.MeasureT-loop
-μ-loop g masks i₀ i = 3 - i
+-- what is answered of the glyph at the shift of mask i
+asked : (masks : List ℕ) (g i n : ℕ) (b : Bool) → b ≡ bit (n % 64) (getD masks i 0) → n ≡ g / 2 ^ shift i → b ≡ Has masks g i
+asked masks g i n b e f = e ∙ ap (λ (m : ℕ). bit (m % 64) (getD masks i 0)) f
 
-loop-holds : tie.Need-loop-holds Inv-loop μ-loop
-loop-holds c = (omega arith, every-none _)
+-- where the first mask has it, the other two decide
+others-decide : (p : ℕ → Bool) (b c : Bool) → p 0 ≡ true → b ≡ p 1 → c ≡ p 2 → (b && c) ≡ every 3 p
+unfolding every
+others-decide p b c e f g = rw (e, f, g)
 
-mul-has : tie.Need-mul-has Inv-loop μ-loop
-mul-has c = search needs
-
-array-read-has : tie.Need-array-read-has Inv-loop μ-loop
+array-read-has : tie.Need-array-read-has
 array-read-has c = search needs
 
-shifted-requires : tie.Need-shifted-requires Inv-loop μ-loop
+shifted-requires : tie.Need-shifted-requires
 shifted-requires c κs = search needs
 
-has-requires : tie.Need-has-requires Inv-loop μ-loop
+has-requires : tie.Need-has-requires
 has-requires c κs = search needs
 
-returns : tie.Need-returns Inv-loop μ-loop
-returns c = let l = c .before .before .before .before .loop in let a = c .before .before .before .before .before .before .args in
-    sym (every-not (λ j. bit (place j (a .g)) (getD (a .self .masks) j 0)) 3 (l .i) (omega arith) (sym (c .before .has .ensures ∙ ap (λ (b : ℕ). bit (b % 64) (getD (a .self .masks) (l .i) 0)) (c .before .before .shifted .ensures)) ∙ not-true (c .before .has .result) (c .if1 .taken)))
+returns : tie.Need-returns
+returns c =
+    let a = c .before .before .before .before .args in
+    let first = asked (a .self .masks) (a .g) 0 _ _ (c .before .has .ensures) (c .before .before .shifted .ensures) in
+    sym (every-not (Has (a .self .masks) (a .g)) 3 0 (omega arith) (sym first ∙ not-true _ (c .if1 .taken)))
 
-add-i : tie.Need-add-i Inv-loop μ-loop
-add-i c = search needs
+array-read-has-2 : tie.Need-array-read-has-2
+array-read-has-2 c = search needs
 
-loop-less : tie.Need-loop-less Inv-loop μ-loop
-loop-less c = search needs
+shifted-requires-2 : tie.Need-shifted-requires-2
+shifted-requires-2 c κs = search needs
 
-loop-again : tie.Need-loop-again Inv-loop μ-loop
-loop-again c = let l = c .before .before .before .before .loop in let a = c .before .before .before .before .before .before .args in
-    (omega arith, every-more (λ j. bit (place j (a .g)) (getD (a .self .masks) j 0)) (l .i) (c .before .has .result) (l .inv .1) (c .before .has .ensures ∙ ap (λ (b : ℕ). bit (b % 64) (getD (a .self .masks) (l .i) 0)) (c .before .before .shifted .ensures)) (c .if1 .left))
+has-requires-2 : tie.Need-has-requires-2
+has-requires-2 c κs = search needs
 
-returns-2 : tie.Need-returns-2 Inv-loop μ-loop
-returns-2 c = every-done _ (c .before .loop .i) 3 (omega arith) (c .before .loop .inv .1)
+array-read-has-3 : tie.Need-array-read-has-3
+array-read-has-3 c = search needs
+
+shifted-requires-3 : tie.Need-shifted-requires-3
+shifted-requires-3 c κs = search needs
+
+has-requires-3 : tie.Need-has-requires-3
+has-requires-3 c κs = search needs
+
+returns-2 : tie.Need-returns-2
+returns-2 c =
+    let third = c .before .before in
+    let else = third .before .before in
+    let a = else .before .before .before .before .args in
+    let ask = asked (a .self .masks) (a .g) in
+    others-decide (Has (a .self .masks) (a .g)) _ _
+    (sym (ask 0 _ _ (else .before .has .ensures) (else .before .before .shifted .ensures)) ∙ not-false _ (else .if1 .left))
+    (ask 1 _ _ (third .has2 .ensures) (third .before .shifted2 .ensures))
+    (ask 2 _ _ (c .has3 .ensures) (c .before .shifted3 .ensures))
 
 pub may-have-spec : {M : Type 1} → statement M
 may-have-spec =
     tie.close
     (tie.spec
-    Inv-loop
-    μ-loop
-    loop-holds
-    mul-has
     array-read-has
     shifted-requires
     has-requires
     returns
-    add-i
-    loop-less
-    loop-again
+    array-read-has-2
+    shifted-requires-2
+    has-requires-2
+    array-read-has-3
+    shifted-requires-3
+    has-requires-3
     returns-2)
