@@ -128,7 +128,8 @@ pub fn run(rounds: u32, place: &str) -> i32 {
 }
 
 /// Both questions to digests of so many glyphs: of few a third of the masks'
-/// bits are set, of many nearly all.
+/// bits are set, of many nearly all. The original's `may_have` is timed as the
+/// compiler builds it into the loop, and once more behind a call, as ours is.
 fn digests(rounds: u32, glyphs: u64) {
     let random = &mut Random::new(SEED);
     let mut drawn = |count: u64| {
@@ -142,31 +143,42 @@ fn digests(rounds: u32, glyphs: u64) {
         (0..GLYPHS).map(|_| drawn(3)).unzip();
     let asked: Vec<u32> = (0..GLYPHS).map(|_| random.below(65_536) as u32).collect();
     let have = |&g: &u32| black_box(&digest).may_have(g);
+    let called_have = |&g: &u32| called_may_have(black_box(&digest), g);
     let our_have = |&g: &u32| black_box(&our).may_have(g);
+    let name = format!("may_have, {glyphs} glyphs added");
+    questions(&name, rounds, (&asked, have), (&asked, our_have));
+    let name = format!("{name}, called");
+    questions(&name, rounds, (&asked, called_have), (&asked, our_have));
     let meets = |other: &SetDigest| black_box(&digest).may_intersect(other);
     let our_meets = |other: &ours::Digest| black_box(&our).may_intersect(&other.0);
-    let yes = [count(&asked, have), count(&others, meets)];
-    assert_eq!(yes, [count(&asked, our_have), count(&our_others, our_meets)], "both say the same");
+    let name = format!("may_intersect, 3 with {glyphs} added");
+    questions(&name, rounds, (&others, meets), (&our_others, our_meets));
+}
+
+/// The original's question behind a call, which is where ours is asked.
+#[inline(never)]
+fn called_may_have(digest: &SetDigest, g: u32) -> bool {
+    digest.may_have(g)
+}
+
+/// Times one question to both sides, each of all that it is asked about.
+fn questions<T, U>(
+    name: &str,
+    rounds: u32,
+    (theirs, is_yes): (&[T], impl Fn(&T) -> bool),
+    (ours, our_is_yes): (&[U], impl Fn(&U) -> bool),
+) {
+    let yes = count(theirs, &is_yes);
+    assert_eq!(yes, count(ours, &our_is_yes), "both say the same");
     line(
-        &format!("may_have, {glyphs} glyphs added, {} times yes", yes[0]),
+        &format!("{name}, {yes} times yes"),
         rounds,
-        GLYPHS,
+        theirs.len(),
         || {
-            black_box(count(&asked, have));
+            black_box(count(theirs, &is_yes));
         },
         || {
-            black_box(count(&asked, our_have));
-        },
-    );
-    line(
-        &format!("may_intersect, 3 with {glyphs} added, {} times yes", yes[1]),
-        rounds,
-        GLYPHS,
-        || {
-            black_box(count(&others, meets));
-        },
-        || {
-            black_box(count(&our_others, our_meets));
+            black_box(count(ours, &our_is_yes));
         },
     );
 }

@@ -1,6 +1,6 @@
 //! Ways for digests and allowances to be wrong.
 use crate::allowances::{self, AllowanceTrial};
-use crate::digests::{DigestTrial, RuleStep, RuleTrial, Step, SHIFTS};
+use crate::digests::{Asked, DigestTrial, RuleStep, RuleTrial, Step, SHIFTS};
 
 pub fn digests() -> Vec<DigestTrial> {
     vec![
@@ -54,10 +54,12 @@ pub fn digests() -> Vec<DigestTrial> {
         }),
         DigestTrial::answered("may_have by any of the masks", |asked, (_, yes)| {
             if let Step::MayHave(g) = asked.step {
-                let has = |(i, shift): (usize, u32)| masks_bit(asked.before.masks[i], g >> shift);
-                *yes = Some(SHIFTS.into_iter().enumerate().any(has));
+                *yes = Some((0..3).any(|i| has(asked, i, g)));
             }
         }),
+        leaves_out("may_have without the mask at shift 4", 0),
+        leaves_out("may_have without the mask at shift 0", 1),
+        leaves_out("may_have without the mask at shift 6", 2),
         DigestTrial::answered("may_intersect by any of the masks", |asked, (_, yes)| {
             if let Step::MayIntersect(other) = &asked.step {
                 let both = asked.before.masks.iter().zip(other.masks);
@@ -72,8 +74,17 @@ pub fn digests() -> Vec<DigestTrial> {
     ]
 }
 
-fn masks_bit(mask: u64, bit: u32) -> bool {
-    mask >> (bit & 63) & 1 != 0
+/// May have, where one mask isn't asked.
+fn leaves_out(name: &'static str, mask: usize) -> DigestTrial {
+    DigestTrial::answered(name, move |asked, (_, yes)| {
+        if let Step::MayHave(g) = asked.step {
+            *yes = Some((0..3).filter(|&i| i != mask).all(|i| has(asked, i, g)));
+        }
+    })
+}
+
+fn has(asked: &Asked, i: usize, g: u32) -> bool {
+    asked.before.masks[i] >> (g >> SHIFTS[i] & 63) & 1 != 0
 }
 
 /// Of the digest of one mask.
