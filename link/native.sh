@@ -24,7 +24,9 @@ CLANG
 }
 
 # Writes OUT, for this processor, from $made/module.bc: with its layout of data, and with structs read where the caller keeps them.
-# Calls of the library that keep a custom of x86-64's thereby are named module_cb_... in it (native.c says which).
+# Calls of the library that keep a custom of x86-64's thereby are named module_cb_... in it (native.c says which). Each function begins at a line
+# of the cache: where the linker happens to put a short one would else change its time by a tenth.
+line_of_cache=-align-all-functions=6
 compile_native() { # OUT
     [ -f "$made/module.bc" ] || die "link/native.sh doesn't know this kit: its clang was handed no module"
     "$tools/bin/clang" --target=x86_64-unknown-linux-gnu -x ir -S -emit-llvm -Xclang -disable-llvm-passes "$made/module.bc" -o "$made/module.ll"
@@ -37,7 +39,7 @@ compile_native() { # OUT
             sed -n 's/.*@\(cb_[a-z_0-9]*\)(.*/s|@\1(|@module_\1(|/p' | sort -u
     } >"$made/native.sed"
     sed -f "$made/native.sed" "$made/module.ll" >"$made/native.ll"
-    "$tools/bin/clang" -O3 -fPIC -ffunction-sections -c -x ir "$made/native.ll" -o "$1"
+    "$tools/bin/clang" -O3 -fPIC -ffunction-sections -mllvm "$line_of_cache" -c -x ir "$made/native.ll" -o "$1"
 }
 
 # Writes $made/native/libdesk.a, for this processor, with native.c beside the module.

@@ -51,6 +51,9 @@ impl Times {
     }
 }
 
+/// Not built into its callers: each side has one loop, at one place, whichever
+/// is first in a round.
+#[inline(never)]
 fn time(walks: u32, walk: &mut impl FnMut()) -> Duration {
     let began = Instant::now();
     (0..walks).for_each(|_| walk());
