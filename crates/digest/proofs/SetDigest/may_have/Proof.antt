@@ -14,11 +14,11 @@ use Rattle.digest.proofs.SetDigest.may_have.Statement.{statement}
 use Rattle.digest.proofs.SetDigest.may_have.Tie as tie
 
 -- mask i has the glyph's bit
-abbrev Has : List ℕ → ℕ → ℕ → Bool
-Has masks g i = bit (place i g) (getD masks i 0)
+abbrev isSet : List ℕ → ℕ → ℕ → Bool
+isSet masks g i = bit (place i g) (getD masks i 0)
 
 -- what is answered of the glyph at the shift of mask i
-asked : (masks : List ℕ) (g i n : ℕ) (b : Bool) → b ≡ bit (n % 64) (getD masks i 0) → n ≡ g / 2 ^ shift i → b ≡ Has masks g i
+asked : (masks : List ℕ) (g i n : ℕ) (b : Bool) → b ≡ bit (n % 64) (getD masks i 0) → n ≡ g / 2 ^ shift i → b ≡ isSet masks g i
 asked masks g i n b e f = e ∙ ap (λ (m : ℕ). bit (m % 64) (getD masks i 0)) f
 
 -- where the first mask has it, the other two decide
@@ -39,7 +39,7 @@ returns : tie.Need-returns
 returns c =
     let a = c .before .before .before .before .args in
     let first = asked (a .self .masks) (a .g) 0 _ _ (c .before .has .ensures) (c .before .before .shifted .ensures) in
-    sym (every-not (Has (a .self .masks) (a .g)) 3 0 (omega arith) (sym first ∙ not-true _ (c .if1 .taken)))
+    sym (every-not (isSet (a .self .masks) (a .g)) 3 0 (omega arith) (sym first ∙ not-true _ (c .if1 .taken)))
 
 array-read-has-2 : tie.Need-array-read-has-2
 array-read-has-2 c = search needs
@@ -65,7 +65,7 @@ returns-2 c =
     let else = third .before .before in
     let a = else .before .before .before .before .args in
     let ask = asked (a .self .masks) (a .g) in
-    others-decide (Has (a .self .masks) (a .g)) _ _
+    others-decide (isSet (a .self .masks) (a .g)) _ _
     (sym (ask 0 _ _ (else .before .has .ensures) (else .before .before .shifted .ensures)) ∙ not-false _ (else .if1 .left))
     (ask 1 _ _ (third .has2 .ensures) (third .before .shifted2 .ensures))
     (ask 2 _ _ (c .has3 .ensures) (c .before .shifted3 .ensures))
