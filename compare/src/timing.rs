@@ -130,8 +130,8 @@ pub fn run(rounds: u32, place: &str) -> i32 {
     0
 }
 
-/// Both questions to digests of so many glyphs: of few a third of the masks'
-/// bits are set, of many nearly all. The original's `may_have` is timed as the
+/// Both questions to digests of so many glyphs: of few an eighth of the
+/// masks' bits are set, of many nearly all. The original's `may_have` is timed as the
 /// compiler builds it into the loop, and once more behind a call, as ours is.
 fn digests(rounds: u32, glyphs: u64) {
     let random = &mut Random::new(SEED);

@@ -1,7 +1,7 @@
 -- The first mask is asked by itself, the other two together. Assumes nothing.
 use mathlib.Core.Bool.{Bool, true, _&&_}
 use mathlib.Core.List.{List}
-use mathlib.Core.Path.{_≡_, refl, sym, ap, _∙_}
+use mathlib.Core.Path.{_≡_, sym, ap, _∙_}
 use Prim.Native.Nat.{ℕ, _/_, _%_, _^_}
 use native.Mathlib.Omega.{arith}
 use lib.ListN.{getD}
@@ -61,13 +61,13 @@ has-requires-3 c κs = search needs
 
 returns-2 : tie.Need-returns-2
 returns-2 c =
-    let third = c .before .before in
-    let else = third .before .before in
-    let a = else .before .before .before .before .args in
+    let second = c .before .before in
+    let first = second .before .before in
+    let a = first .before .before .before .before .args in
     let ask = asked (a .self .masks) (a .g) in
     others-decide (isSet (a .self .masks) (a .g)) _ _
-    (sym (ask 0 _ _ (else .before .has .ensures) (else .before .before .shifted .ensures)) ∙ not-false _ (else .if1 .left))
-    (ask 1 _ _ (third .has2 .ensures) (third .before .shifted2 .ensures))
+    (sym (ask 0 _ _ (first .before .has .ensures) (first .before .before .shifted .ensures)) ∙ not-false _ (first .if1 .left))
+    (ask 1 _ _ (second .has2 .ensures) (second .before .shifted2 .ensures))
     (ask 2 _ _ (c .has3 .ensures) (c .before .shifted3 .ensures))
 
 pub may-have-spec : {M : Type 1} → statement M
