@@ -6,6 +6,7 @@ use lib.Dec.{eqb}
 use lib.ListN.{getD}
 use Rattle.glyph.specs.Glyph.{blank}
 use Rattle.text.specs.Text.{Text}
+use Rattle.verdict.specs.Verdict.{Asked}
 use Rattle.matching.specs.declared.Lookup.{Lookup as Question}
 use Rattle.book.specs.declared.Part.{Part}
 use Rattle.book.specs.declared.Entry.{Entry}
@@ -30,9 +31,9 @@ aimAt records (Matched positions end) = record { hit = true; level = shown (reco
 aimAt records Unmatched = noAim
 
 -- `chainMatch` of a chain's parts
-abbrev pub matchOn : Question → List ℕ → ℕ → List ℕ → List ℕ → List ℕ → Text → Match
-matchOn q sets first back input onward t =
-    cond (eqb (getD (t .glyphs) (t .cursor) blank .id) first) (afterInput q sets t back onward (inputAt q sets t input)) Unmatched
+abbrev pub matchOn : Question → List ℕ → (ℕ → Asked) → ℕ → List ℕ → List ℕ → List ℕ → Text → Match
+matchOn q sets test first back input onward t =
+    cond (eqb (getD (t .glyphs) (t .cursor) blank .id) first) (afterInput q sets test t back onward (inputAt q sets test t input)) Unmatched
 
 -- kind 3
 abbrev pub aimedAt : Given → List ℕ → List ℕ → Entry → Text → Aim

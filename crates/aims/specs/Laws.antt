@@ -14,6 +14,7 @@ use Rattle.text.specs.Text.{Text, textOf, Fits}
 use Rattle.text.specs.Changes.{at-cursor}
 use Rattle.text.specs.Laws.{sizes}
 use Rattle.verdict.specs.declared.Test.{Test}
+use Rattle.verdict.specs.Verdict.{Asked, valueBy}
 use Rattle.matching.specs.declared.Lookup.{Lookup as Question}
 use Rattle.matching.specs.declared.InputMatch.{InputMatch}
 use Rattle.matching.specs.Take.{slots, ahead, behind, takes, reached}
@@ -41,81 +42,81 @@ values-are wide values e =
     let z : length values - 0 ≡ length values = omega arith in
     ap (λ (n : ℕ). take n wide) z ∙ ap (take (length values)) e ∙ widened-values values
 
-module _ (q : Question) (sets : List ℕ) (C : List Glyph) (values wide : List ℕ) (e : wide ≡ widened values) where
-  pub input-told : (before : List Glyph) (idx : ℕ) (m : InputMatch) → m ≡ inputTold C idx (inputOn q sets Test.Equal before C idx (take (length values - 0) wide))
-      → m ≡ inputTold C idx (inputOn q sets Test.Equal before C idx values)
-  input-told before idx m h = h ∙ ap (λ (v : List ℕ). inputTold C idx (inputOn q sets Test.Equal before C idx v)) (values-are wide values e)
+module _ (q : Question) (sets : List ℕ) (test : ℕ → Asked) (C : List Glyph) (values wide : List ℕ) (e : wide ≡ widened values) where
+  pub input-told : (before : List Glyph) (idx : ℕ) (m : InputMatch) → m ≡ inputTold C idx (inputOn q sets test before C idx (take (length values - 0) wide))
+      → m ≡ inputTold C idx (inputOn q sets test before C idx values)
+  input-told before idx m h = h ∙ ap (λ (v : List ℕ). inputTold C idx (inputOn q sets test before C idx v)) (values-are wide values e)
 
-  pub ahead-told : (start syllable : ℕ) (m : ContextMatch) (b : Bool) → m ≡ contextTold (ahead (length C)) start (aheadOn q sets Test.Equal C start syllable (take (length values - 0) wide))
-      → b ≡ isFound m → b ≡ isTaken (aheadOn q sets Test.Equal C start syllable values)
+  pub ahead-told : (start syllable : ℕ) (m : ContextMatch) (b : Bool) → m ≡ contextTold (ahead (length C)) start (aheadOn q sets test C start syllable (take (length values - 0) wide))
+      → b ≡ isFound m → b ≡ isTaken (aheadOn q sets test C start syllable values)
   ahead-told start syllable m b h k =
-      k ∙ ap isFound h ∙ found-taken (ahead (length C)) start (aheadOn q sets Test.Equal C start syllable (take (length values - 0) wide))
-      ∙ ap (λ (v : List ℕ). isTaken (aheadOn q sets Test.Equal C start syllable v)) (values-are wide values e)
+      k ∙ ap isFound h ∙ found-taken (ahead (length C)) start (aheadOn q sets test C start syllable (take (length values - 0) wide))
+      ∙ ap (λ (v : List ℕ). isTaken (aheadOn q sets test C start syllable v)) (values-are wide values e)
 
-  pub back-told : (syllable : ℕ) (m : ContextMatch) (b : Bool) → m ≡ contextTold behind (length C) (backOn q sets Test.Equal C syllable (take (length values - 0) wide))
-      → b ≡ isFound m → b ≡ isTaken (backOn q sets Test.Equal C syllable values)
+  pub back-told : (syllable : ℕ) (m : ContextMatch) (b : Bool) → m ≡ contextTold behind (length C) (backOn q sets test C syllable (take (length values - 0) wide))
+      → b ≡ isFound m → b ≡ isTaken (backOn q sets test C syllable values)
   back-told syllable m b h k =
-      k ∙ ap isFound h ∙ found-taken behind (length C) (backOn q sets Test.Equal C syllable (take (length values - 0) wide))
-      ∙ ap (λ (v : List ℕ). isTaken (backOn q sets Test.Equal C syllable v)) (values-are wide values e)
+      k ∙ ap isFound h ∙ found-taken behind (length C) (backOn q sets test C syllable (take (length values - 0) wide))
+      ∙ ap (λ (v : List ℕ). isTaken (backOn q sets test C syllable v)) (values-are wide values e)
 
 -- no values are always there
-module _ (q : Question) (sets : List ℕ) (C : List Glyph) where
-  pub no-ahead : (start syllable : ℕ) (values : List ℕ) → length values ≡ 0 → true ≡ isTaken (aheadOn q sets Test.Equal C start syllable values)
+module _ (q : Question) (sets : List ℕ) (test : ℕ → Asked) (C : List Glyph) where
+  pub no-ahead : (start syllable : ℕ) (values : List ℕ) → length values ≡ 0 → true ≡ isTaken (aheadOn q sets test C start syllable values)
   unfolding aheadOn takes
   no-ahead start syllable [] e = refl
   no-ahead start syllable (x ∷ xs) e = absurd (omega arith)
 
-  pub no-back : (syllable : ℕ) (values : List ℕ) → length values ≡ 0 → true ≡ isTaken (backOn q sets Test.Equal C syllable values)
+  pub no-back : (syllable : ℕ) (values : List ℕ) → length values ≡ 0 → true ≡ isTaken (backOn q sets test C syllable values)
   unfolding backOn takes
   no-back syllable [] e = refl
   no-back syllable (x ∷ xs) e = absurd (omega arith)
 
-module _ (done coming : List ℕ) (p : Place) (f : Fits done coming p) (q : Question) (sets : List ℕ) (first : ℕ) (back input onward : List ℕ) (records : Part)
+module _ (done coming : List ℕ) (p : Place) (f : Fits done coming p) (q : Question) (sets : List ℕ) (test : ℕ → Asked) (first : ℕ) (back input onward : List ℕ) (records : Part)
     (g : Glyph) (is : g ≡ getD (glyphsOf coming) (p .idx) blank) where
   abbrev told : Aim
-  told = aimAt records (matchOn q sets first back input onward (textOf done coming p))
+  told = aimAt records (matchOn q sets test first back input onward (textOf done coming p))
 
   id-is : eqb (getD (textOf done coming p .glyphs) (p .d) blank .id) first ≡ eqb (g .id) first
   id-is = ap (λ (x : Glyph). eqb (x .id) first) (at-cursor f ∙ sym is)
 
-  pub aim-other : (g .id ≡ first → ⊥) → noAim ≡ aimAt records (matchOn q sets first back input onward (textOf done coming p))
+  pub aim-other : (g .id ≡ first → ⊥) → noAim ≡ aimAt records (matchOn q sets test first back input onward (textOf done coming p))
   aim-other n = rw (id-is, ne-eqb (g .id) first n)
 
   module _ (same : g .id ≡ first) (m : InputMatch)
-      (m-is : m ≡ inputTold (glyphsOf coming) (p .idx) (inputOn q sets Test.Equal (take (p .d) (glyphsOf done)) (glyphsOf coming) (p .idx) input)) where
-    matched-is : matchOn q sets first back input onward (textOf done coming p) ≡ afterInput q sets (textOf done coming p) back onward (inputAt q sets (textOf done coming p) input)
+      (m-is : m ≡ inputTold (glyphsOf coming) (p .idx) (inputOn q sets test (take (p .d) (glyphsOf done)) (glyphsOf coming) (p .idx) input)) where
+    matched-is : matchOn q sets test first back input onward (textOf done coming p) ≡ afterInput q sets test (textOf done coming p) back onward (inputAt q sets test (textOf done coming p) input)
     matched-is = rw (id-is, eq-eqb (g .id) first same)
 
-    pub aim-lost : isMatched (m .answer) ≡ false → noAim ≡ aimAt records (matchOn q sets first back input onward (textOf done coming p))
-    aim-lost h = rw (id-is, eq-eqb (g .id) first same) (ap (aimAt records) (input-lost done coming p f q sets input back onward m m-is h))
+    pub aim-lost : isMatched (m .answer) ≡ false → noAim ≡ aimAt records (matchOn q sets test first back input onward (textOf done coming p))
+    aim-lost h = rw (id-is, eq-eqb (g .id) first same) (ap (aimAt records) (input-lost done coming p f q sets test input back onward m m-is h))
 
-    module _ (s : Shown done coming p f q sets input m) where
+    module _ (s : Shown done coming p f q sets test input m) where
       -- what the rows answer, where matching ended in the row
       abbrev pub aheadIs : Bool
-      aheadIs = isTaken (aheadOn q sets Test.Equal (glyphsOf coming) (endOf (m .answer)) (g .syllable) onward)
+      aheadIs = isTaken (aheadOn q sets test (glyphsOf coming) (endOf (m .answer)) (g .syllable) onward)
 
       abbrev pub backIs : Bool
-      backIs = isTaken (backOn q sets Test.Equal (take (p .d) (glyphsOf done)) (g .syllable) back)
+      backIs = isTaken (backOn q sets test (take (p .d) (glyphsOf done)) (g .syllable) back)
 
-      by-context : aimAt records (matchOn q sets first back input onward (textOf done coming p))
+      by-context : aimAt records (matchOn q sets test first back input onward (textOf done coming p))
           ≡ aimAt records (cond (aheadIs && backIs) (Matched (movedLevel (p .idx) (p .d) (take (m .count) (m .positions)) (endOf (m .answer)) .positions)
           (movedLevel (p .idx) (p .d) (take (m .count) (m .positions)) (endOf (m .answer)) .end)) Unmatched)
       by-context =
-          let l = level-is done coming p f q sets input m s in
+          let l = level-is done coming p f q sets test input m s in
           ap (aimAt records)
           (matched-is
-          ∙ context-is done coming p f q sets (s .qs) (s .inside) g is input back onward (s .is)
-          ∙ ap (λ (n : ℕ). cond (isTaken (aheadOn q sets Test.Equal (glyphsOf coming) n (g .syllable) onward) && backIs) (Matched (p .d ∷ raisedAll (p .d) (s .qs)) (p .d + reached (ahead (length (drop (p .idx) (glyphsOf coming)))) 1 (s .qs))) Unmatched) (sym (s .end))
+          ∙ context-is done coming p f q sets test (s .qs) (s .inside) g is input back onward (s .is)
+          ∙ ap (λ (n : ℕ). cond (isTaken (aheadOn q sets test (glyphsOf coming) n (g .syllable) onward) && backIs) (Matched (p .d ∷ raisedAll (p .d) (s .qs)) (p .d + reached (ahead (length (drop (p .idx) (glyphsOf coming)))) 1 (s .qs))) Unmatched) (sym (s .end))
           ∙ ap (λ (lv : Level). cond (aheadIs && backIs) (Matched (lv .positions) (lv .end)) Unmatched) (sym l))
 
-      pub aim-behind : aheadIs ≡ false → noAim ≡ aimAt records (matchOn q sets first back input onward (textOf done coming p))
+      pub aim-behind : aheadIs ≡ false → noAim ≡ aimAt records (matchOn q sets test first back input onward (textOf done coming p))
       aim-behind h = sym (by-context ∙ rw h)
 
-      pub aim-ahead : aheadIs ≡ true → backIs ≡ false → noAim ≡ aimAt records (matchOn q sets first back input onward (textOf done coming p))
+      pub aim-ahead : aheadIs ≡ true → backIs ≡ false → noAim ≡ aimAt records (matchOn q sets test first back input onward (textOf done coming p))
       aim-ahead h k = sym (by-context ∙ rw (h, k))
 
       pub aim-hit : aheadIs ≡ true → backIs ≡ true → (lv : Slots) → lv ≡ shown (movedLevel (p .idx) (p .d) (take (m .count) (m .positions)) (endOf (m .answer)))
-          → _≡_ {A = Aim} (record { hit = true; level = lv; records = records }) (aimAt records (matchOn q sets first back input onward (textOf done coming p)))
+          → _≡_ {A = Aim} (record { hit = true; level = lv; records = records }) (aimAt records (matchOn q sets test first back input onward (textOf done coming p)))
       aim-hit h k lv e = sym (by-context ∙ rw (h, k) (λ j. record { hit = true; level = sym e j; records = records }))
 
       -- what opening a level asks
@@ -134,7 +135,7 @@ module _ (done coming : List ℕ) (p : Place) (f : Fits done coming p) (q : Ques
 
 -- the chain of an entry
 pub aim-chain : (given : Given) (sets ws : List ℕ) (t : Text) (props first : ℕ) (back input onward records : Part) (q : Question) → q ≡ asks given props
-    → aimAt records (matchOn q sets first (partOf ws back) (partOf ws input) (partOf ws onward) t) ≡ aimedAt given sets ws (Entry.Chain props first back input onward records) t
-unfolding chainMatch
+    → aimAt records (matchOn q sets (valueBy Test.Equal ws) first (partOf ws back) (partOf ws input) (partOf ws onward) t) ≡ aimedAt given sets ws (Entry.Chain props first back input onward records) t
+unfolding chainMatch valueBy
 aim-chain given sets ws t props first back input onward records q e =
-    ap (λ (x : Question). aimAt records (matchOn x sets first (partOf ws back) (partOf ws input) (partOf ws onward) t)) e
+    ap (λ (x : Question). aimAt records (matchOn x sets (valueBy Test.Equal ws) first (partOf ws back) (partOf ws input) (partOf ws onward) t)) e

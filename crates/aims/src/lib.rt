@@ -16,7 +16,7 @@ ghost use Prim.Native.Nat.{_≤_, _<_};
 ghost use lib.ListN.{length};
 ghost use Rattle.glyph.specs.Glyph.{limit, glyphsOf};
 ghost use Rattle.text.specs.Text.{textOf, Fits};
-ghost use Rattle.verdict.specs.declared.Test.{Test};
+ghost use Rattle.verdict.specs.Verdict.{valueBy};
 ghost use Rattle.matching.specs.Matchers.{inputOn, aheadOn, backOn};
 ghost use Rattle.matching.specs.Answers.{inputTold, isMatched, endOf, isFound};
 ghost use Rattle.book.specs.Inside.{Good};
@@ -86,15 +86,17 @@ fn match_values(
     idx: usize,
     q: Lookup,
     sets: &[u16],
+    test: Test,
+    lists: &[u16],
     values: &[u16],
 ) -> InputMatch
     requires { ⌜ (idx < length (glyphsOf (now coming))) × (length (glyphsOf (now coming)) ≤ limit) × (length (now values) ≤ 63) ⌝ }
     ensures { λ r. ⌜ r ≡ inputTold (glyphsOf (now (coming .entry))) idx
-        (inputOn q (now (sets .entry)) Test.Equal (glyphsOf (now (before .entry))) (glyphsOf (now (coming .entry))) idx (now (values .entry))) ⌝ }
+        (inputOn q (now (sets .entry)) (valueBy test (now (lists .entry))) (glyphsOf (now (before .entry))) (glyphsOf (now (coming .entry))) idx (now (values .entry))) ⌝ }
 {
     let n = values.len();
     let wide = book::widen(values);
-    matching::input(before, coming, idx, q, sets, Test::Equal, &wide[0..n])
+    matching::input(before, coming, idx, q, sets, test, lists, &wide[0..n])
 }
 
 // Whether lookahead values of the book are there from a start on.
@@ -104,30 +106,40 @@ fn is_ahead(
     syllable: u8,
     q: Lookup,
     sets: &[u16],
+    test: Test,
+    lists: &[u16],
     values: &[u16],
 ) -> bool
     requires { ⌜ (start ≤ length (glyphsOf (now coming))) × (length (now values) ≤ 64) ⌝ }
-    ensures { λ r. ⌜ r ≡ isTaken (aheadOn q (now (sets .entry)) Test.Equal (glyphsOf (now (coming .entry))) start syllable (now (values .entry))) ⌝ }
+    ensures { λ r. ⌜ r ≡ isTaken (aheadOn q (now (sets .entry)) (valueBy test (now (lists .entry))) (glyphsOf (now (coming .entry))) start syllable (now (values .entry))) ⌝ }
 {
     let n = values.len();
     if n == 0 {
         return true;
     }
     let wide = book::widen(values);
-    is_found(contexts::lookahead(coming, start, syllable, q, sets, Test::Equal, &wide[0..n]))
+    is_found(contexts::lookahead(coming, start, syllable, q, sets, test, lists, &wide[0..n]))
 }
 
 // Whether backtrack values of the book are there before the cursor.
-fn is_behind(before: &[u32], syllable: u8, q: Lookup, sets: &[u16], values: &[u16]) -> bool
+fn is_behind(
+    before: &[u32],
+    syllable: u8,
+    q: Lookup,
+    sets: &[u16],
+    test: Test,
+    lists: &[u16],
+    values: &[u16],
+) -> bool
     requires { ⌜ length (now values) ≤ 64 ⌝ }
-    ensures { λ r. ⌜ r ≡ isTaken (backOn q (now (sets .entry)) Test.Equal (glyphsOf (now (before .entry))) syllable (now (values .entry))) ⌝ }
+    ensures { λ r. ⌜ r ≡ isTaken (backOn q (now (sets .entry)) (valueBy test (now (lists .entry))) (glyphsOf (now (before .entry))) syllable (now (values .entry))) ⌝ }
 {
     let n = values.len();
     if n == 0 {
         return true;
     }
     let wide = book::widen(values);
-    is_found(contexts::backtrack(before, syllable, q, sets, Test::Equal, &wide[0..n]))
+    is_found(contexts::backtrack(before, syllable, q, sets, test, lists, &wide[0..n]))
 }
 
 // No chain that matched.
@@ -151,6 +163,8 @@ fn match_chain(
     done: &[u32],
     coming: &[u32],
     sets: &[u16],
+    test: Test,
+    lists: &[u16],
     p: Place,
     q: Lookup,
     first: u32,
@@ -160,7 +174,7 @@ fn match_chain(
     records: Part,
 ) -> Aim
     requires { ⌜ Fits (now done) (now coming) p × (p .idx < limit) × (length (now back) ≤ 64) × (length (now input) ≤ 63) × (length (now onward) ≤ 64) ⌝ }
-    ensures { λ r. ⌜ r ≡ aimAt records (matchOn q (now (sets .entry)) first (now (back .entry)) (now (input .entry)) (now (onward .entry)) (textOf (now (done .entry)) (now (coming .entry)) p)) ⌝ }
+    ensures { λ r. ⌜ r ≡ aimAt records (matchOn q (now (sets .entry)) (valueBy test (now (lists .entry))) first (now (back .entry)) (now (input .entry)) (now (onward .entry)) (textOf (now (done .entry)) (now (coming .entry)) p)) ⌝ }
 {
     let d = p.d;
     let idx = p.idx;
@@ -169,16 +183,16 @@ fn match_chain(
         return no_aim();
     }
     let before = glyph::first(done, d);
-    let m = match_values(before, coming, idx, q, sets, input);
+    let m = match_values(before, coming, idx, q, sets, test, lists, input);
     let answer = m.answer;
     if !is_matched(answer) {
         return no_aim();
     }
     let end = end_of(answer);
-    if !is_ahead(coming, end, g.syllable, q, sets, onward) {
+    if !is_ahead(coming, end, g.syllable, q, sets, test, lists, onward) {
         return no_aim();
     }
-    if !is_behind(before, g.syllable, q, sets, back) {
+    if !is_behind(before, g.syllable, q, sets, test, lists, back) {
         return no_aim();
     }
     let places = m.positions;
@@ -223,6 +237,8 @@ pub fn take_aim(
                 done,
                 coming,
                 sets,
+                Test::Equal,
+                book,
                 p,
                 q,
                 first,

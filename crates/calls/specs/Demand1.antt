@@ -10,7 +10,7 @@ use lib.ListN.{length, getD, take}
 use Rattle.glyph.specs.declared.Glyph.{Glyph}
 use Rattle.glyph.specs.Glyph.{glyphsOf, blank}
 use Rattle.glyph.specs.Reply.{Reply}
-use Rattle.verdict.specs.declared.Test.{Test}
+use Rattle.verdict.specs.Verdict.{Asked}
 use Rattle.matching.specs.declared.Lookup.{Lookup}
 use Rattle.matching.specs.declared.Refusal.{Refusal}
 use Rattle.matching.specs.declared.Refusal.the-variants.{Shape, Cursor, Values, Start}
@@ -147,7 +147,7 @@ turned f = (f .1, f .0)
 
 -- ---- the calls keep it
 
-module _ (done : List ℕ) (d : ℕ) (coming : List ℕ) (len idx : ℕ) (lookup : Lookup) (sets : List ℕ) (test : Test) (values : List ℕ) where
+module _ {X : Type 0} (done : List ℕ) (d : ℕ) (coming : List ℕ) (len idx : ℕ) (lookup : Lookup) (sets : List ℕ) (test : X → Asked) (values : List X) where
   abbrev n : ℕ
   n = length values
 

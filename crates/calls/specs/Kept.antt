@@ -10,7 +10,7 @@ use lib.Seq.{take-at}
 use Rattle.glyph.specs.declared.Glyph.{Glyph}
 use Rattle.glyph.specs.Glyph.{glyphsOf, blank}
 use Rattle.glyph.specs.Reply.{Reply}
-use Rattle.verdict.specs.declared.Test.{Test}
+use Rattle.verdict.specs.Verdict.{Asked}
 use Rattle.verdict.specs.declared.Verdict.{Verdict}
 use Rattle.matching.specs.declared.Lookup.{Lookup}
 use Rattle.matching.specs.declared.Refusal.{Refusal}
@@ -54,7 +54,7 @@ module _ (text : List Glyph) (idx : ℕ) where
   replies-one unlike (lost y) e = let z : _≡_ {A = ℕ} 5 4 = ap (λ (r : Reply). r .number) e in absurd (omega arith)
   replies-one unlike unlike e = refl
 
-  module _ (values : List ℕ) (v : ℕ → ℕ → Verdict) (rule : ℕ → Bool) where
+  module _ {X : Type 0} (values : List X) (v : X → ℕ → Verdict) (rule : ℕ → Bool) where
     abbrev outcome : Outcome
     outcome = takes (ahead (length text)) v rule (idx + 1) values
 
@@ -80,7 +80,7 @@ module _ (text : List Glyph) (idx : ℕ) where
 
 -- ---- context
 
-module _ (way : Way) (p : ℕ) (values : List ℕ) (v : ℕ → ℕ → Verdict) where
+module _ {X : Type 0} (way : Way) (p : ℕ) (values : List X) (v : X → ℕ → Verdict) where
   abbrev outcomeBy : Outcome
   outcomeBy = takes way v anywhere p values
 
@@ -118,27 +118,27 @@ module _ (way : Way) (p : ℕ) (values : List ℕ) (v : ℕ → ℕ → Verdict)
 
 -- ---- the matchers over glyphs are these
 
-module _ (lookup : Lookup) (sets : List ℕ) (test : Test) where
-  pub input-takes : (done coming : List Glyph) (idx : ℕ) (values : List ℕ)
+module _ {X : Type 0} (lookup : Lookup) (sets : List ℕ) (test : X → Asked) where
+  pub input-takes : (done coming : List Glyph) (idx : ℕ) (values : List X)
       → inputOn lookup sets test done coming idx values
       ≡ takes (ahead (length coming)) (inputJudge lookup sets test coming idx) (inputRule lookup sets done coming idx) (idx + 1) values
   unfolding inputOn inputBy
   input-takes done coming idx values = refl
 
-  pub ahead-takes : (coming : List Glyph) (start syllable : ℕ) (values : List ℕ)
+  pub ahead-takes : (coming : List Glyph) (start syllable : ℕ) (values : List X)
       → aheadOn lookup sets test coming start syllable values
       ≡ takes (ahead (length coming)) (judge (contextMatcherOf lookup) sets test syllable coming) anywhere start values
   unfolding aheadOn
   ahead-takes coming start syllable values = refl
 
-  pub back-takes : (row : List Glyph) (syllable : ℕ) (values : List ℕ)
+  pub back-takes : (row : List Glyph) (syllable : ℕ) (values : List X)
       → backOn lookup sets test row syllable values ≡ takes behind (judge (contextMatcherOf lookup) sets test syllable row) anywhere (length row) values
   unfolding backOn
   back-takes row syllable values = refl
 
 -- ---- the calls
 
-module _ (done : List ℕ) (d : ℕ) (coming : List ℕ) (len idx : ℕ) (lookup : Lookup) (sets : List ℕ) (test : Test) (values : List ℕ) where
+module _ {X : Type 0} (done : List ℕ) (d : ℕ) (coming : List ℕ) (len idx : ℕ) (lookup : Lookup) (sets : List ℕ) (test : X → Asked) (values : List X) where
   abbrev text : List Glyph
   text = take len (glyphsOf coming)
 

@@ -6,7 +6,7 @@ use native.Mathlib.Omega.{arith}
 use lib.ListN.{length, getD, take, drop}
 use Rattle.glyph.specs.declared.Glyph.{Glyph}
 use Rattle.glyph.specs.Glyph.{words, glyphOf, glyphs, glyphsOf, blank}
-use Rattle.verdict.specs.declared.Test.{Test}
+use Rattle.verdict.specs.Verdict.{Asked}
 use Rattle.matching.specs.declared.Lookup.{Lookup}
 use Rattle.matching.specs.declared.InputAnswer.{InputAnswer}
 use Rattle.matching.specs.Take.{Outcome, taken, lost, unlike}
@@ -55,7 +55,7 @@ unfolding ligated
 ligated-most gs c [] = omega arith
 ligated-most gs c (q ∷ qs) = let a = c q .part in let b = ligated-most gs c qs in omega arith
 
-module _ (done : List ℕ) (d : ℕ) (coming : List ℕ) (len idx : ℕ) (lookup : Lookup) (sets : List ℕ) (test : Test) (values : List ℕ) where
+module _ {X : Type 0} (done : List ℕ) (d : ℕ) (coming : List ℕ) (len idx : ℕ) (lookup : Lookup) (sets : List ℕ) (test : X → Asked) (values : List X) where
   abbrev text : List Glyph
   text = take len (glyphsOf coming)
 

@@ -7,7 +7,9 @@ use matching::MAX_CONTEXT_LENGTH;
 use matching::Refusal;
 use verdict::Test;
 ghost use mathlib.Core.Path.{_≡_};
+ghost use mathlib.Core.List.{[]};
 ghost use mathlib.Core.Bool.{cond};
+ghost use Rattle.verdict.specs.Verdict.{valueBy};
 ghost use Rattle.matching.specs.declared.Refusal.the-variants.{Shape, Cursor, Values, Start};
 ghost use Rattle.matching.specs.Answers.{without};
 ghost use Rattle.calls.specs.declared.Fit.{Fit};
@@ -31,7 +33,7 @@ pub fn match_input(
     test: Test,
     values: &[u32],
 ) -> InputMatch
-    ensures { λ r. ⌜ r ≡ inputOf (now (done .entry)) d (now (coming .entry)) len idx lookup (now (sets .entry)) test (now (values .entry)) ⌝ }
+    ensures { λ r. ⌜ r ≡ inputOf (now (done .entry)) d (now (coming .entry)) len idx lookup (now (sets .entry)) (valueBy test []) (now (values .entry)) ⌝ }
 {
     match input_fit(done, d, coming, len, idx, sets, values.len()) {
         Fit::Refused(why) => return refuse(InputAnswer::Refused(why)),
@@ -43,8 +45,19 @@ pub fn match_input(
     let table = settings.table;
     let m = verdict::matcher_of(settings, false, lookup.mask, lookup.props);
     let searched = matching::searched_row(table, before);
+    let none = [0u16; 0];
     let mut positions = [0u16; 64];
-    let answer = matching::take_input(searched, text, idx, m, sets, test, values, &mut positions);
+    let answer = matching::take_input(
+        searched,
+        text,
+        idx,
+        m,
+        sets,
+        test,
+        &none,
+        values,
+        &mut positions,
+    );
     InputMatch {
         answer,
         count: matching::count_of(answer, values.len()),
@@ -65,7 +78,7 @@ pub fn match_lookahead(
     test: Test,
     values: &[u32],
 ) -> ContextMatch
-    ensures { λ r. ⌜ r ≡ aheadOf (now (done .entry)) d (now (coming .entry)) len idx start lookup (now (sets .entry)) test (now (values .entry)) ⌝ }
+    ensures { λ r. ⌜ r ≡ aheadOf (now (done .entry)) d (now (coming .entry)) len idx start lookup (now (sets .entry)) (valueBy test []) (now (values .entry)) ⌝ }
 {
     match ahead_fit(done, d, coming, len, idx, start, sets, values.len()) {
         Fit::Refused(why) => return ContextMatch::Refused(why),
@@ -73,7 +86,17 @@ pub fn match_lookahead(
     }
     let text = glyph::first(coming, len);
     let cursor = glyph::read(text, idx);
-    contexts::lookahead(text, start, cursor.syllable, lookup, sets, test, values)
+    let none = [0u16; 0];
+    contexts::lookahead(
+        text,
+        start,
+        cursor.syllable,
+        lookup,
+        sets,
+        test,
+        &none,
+        values,
+    )
 }
 
 // The values against the glyphs of the backward row, from its end.
@@ -88,7 +111,7 @@ pub fn match_backtrack<'a>(
     test: Test,
     values: &[u32],
 ) -> ContextMatch
-    ensures { λ r. ⌜ r ≡ backOf (now (done .entry)) d (now (coming .entry)) len idx lookup (now (sets .entry)) test (now (values .entry)) ⌝ }
+    ensures { λ r. ⌜ r ≡ backOf (now (done .entry)) d (now (coming .entry)) len idx lookup (now (sets .entry)) (valueBy test []) (now (values .entry)) ⌝ }
 {
     match back_fit(done, d, coming, len, idx, sets, values.len()) {
         Fit::Refused(why) => return ContextMatch::Refused(why),
@@ -99,7 +122,8 @@ pub fn match_backtrack<'a>(
     let text = glyph::first(coming, len);
     let row = contexts::backward_row(table, done, d, text, idx);
     let cursor = glyph::read(text, idx);
-    contexts::backtrack(row, cursor.syllable, lookup, sets, test, values)
+    let none = [0u16; 0];
+    contexts::backtrack(row, cursor.syllable, lookup, sets, test, &none, values)
 }
 
 // ---- what the calls are refused for

@@ -7,7 +7,7 @@ use Rattle.digest.specs.Digest.{ranged}
 use Rattle.glyph.specs.Glyph.{blank, limit, glyphs, glyphsOf, illShaped}
 use Rattle.glyph.specs.Sets.{inSet}
 use Rattle.verdict.specs.Matcher.{inputMatcher, contextMatcher, matcherOf}
-use Rattle.verdict.specs.Verdict.{skipYes, ignorable, skipOf, ruledOut, valueOf, matchOf, verdict}
+use Rattle.verdict.specs.Verdict.{skipYes, ignorable, skipOf, ruledOut, matchOf, verdict}
 use Rattle.walk.specs.Walk.{walk, walkFrom, walkBack}
 use Rattle.matching.specs.Take.{takes, reached}
 use Rattle.ligature.specs.Ligature.{mayJoin, baseBefore, baseSkips}
@@ -31,9 +31,9 @@ abbrev pub wanted : Card → List (List ℕ)
 wanted c = c .wanted
 
 pub all-cards : map given cards ≡ map wanted cards
-unfolding every some ranged masksOf bitsBelow blank inSet inputMatcher contextMatcher matcherOf skipYes ignorable skipOf ruledOut valueOf matchOf verdict walk walkFrom takes reached mayJoin baseBefore baseSkips inputBy inputOn ligated limit glyphs glyphsOf illShaped badText inputFit inputOf withId recordsOf counted bodyOf firstOf readLookups readBook lookupAt following gained lost grownBy shrunkBy repaired triedBy recordsBy closed chainRun checkedFirst checkedAll risesTo
+unfolding every some ranged masksOf bitsBelow blank inSet inputMatcher contextMatcher matcherOf skipYes ignorable skipOf ruledOut matchOf verdict walk walkFrom takes reached mayJoin baseBefore baseSkips inputBy inputOn ligated limit glyphs glyphsOf illShaped badText inputFit inputOf withId recordsOf counted bodyOf firstOf readLookups readBook lookupAt following gained lost grownBy shrunkBy repaired triedBy recordsBy closed chainRun checkedFirst checkedAll risesTo
 all-cards = refl
 
 pub all-examples : map given examples ≡ map wanted examples
-unfolding blank inSet inputMatcher contextMatcher matcherOf skipYes ignorable skipOf ruledOut valueOf matchOf verdict walk walkFrom walkBack takes reached mayJoin baseBefore baseSkips inputBy inputOn aheadOn backOn ligated
+unfolding blank inSet inputMatcher contextMatcher matcherOf skipYes ignorable skipOf ruledOut matchOf verdict walk walkFrom walkBack takes reached mayJoin baseBefore baseSkips inputBy inputOn aheadOn backOn ligated
 all-examples = refl

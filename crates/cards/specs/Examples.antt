@@ -7,7 +7,7 @@ use Rattle.glyph.specs.declared.Glyph.{Glyph}
 use Rattle.glyph.specs.Reply.{Reply}
 use Rattle.verdict.specs.declared.Table.{Table}
 use Rattle.verdict.specs.declared.Table.the-variants.{Gsub, Gpos}
-use Rattle.verdict.specs.declared.Test.the-variants.{Equal}
+use Rattle.verdict.specs.Verdict.{equalTo}
 use Rattle.matching.specs.declared.Lookup.{Lookup}
 use Rattle.matching.specs.Take.{ahead, behind}
 use Rattle.matching.specs.Matchers.{inputOn, aheadOn, backOn}
@@ -31,16 +31,16 @@ abbrev ligature : ℕ → Glyph
 ligature lig = record { id = 40; mask = 1; flags = 0; syllable = 0; props = 4; lig = lig; comp = 0; count = 3; ligated = 3 }
 
 abbrev lookahead : List Glyph → ℕ → List ℕ → List (List ℕ)
-lookahead text start values = spelled (contextReply (contextTold (ahead (length text)) start (aheadOn (lookup Gsub 0) [] Equal text start 0 values)))
+lookahead text start values = spelled (contextReply (contextTold (ahead (length text)) start (aheadOn (lookup Gsub 0) [] equalTo text start 0 values)))
 
 abbrev backtrack : List Glyph → List ℕ → List (List ℕ)
-backtrack row values = spelled (contextReply (contextTold behind (length row) (backOn (lookup Gsub 0) [] Equal row 0 values)))
+backtrack row values = spelled (contextReply (contextTold behind (length row) (backOn (lookup Gsub 0) [] equalTo row 0 values)))
 
 -- the glyph at the cursor and then one with the id 8, after `done`, by a lookup that ignores ligatures
 abbrev after : Table → List Glyph → Glyph → Glyph → List (List ℕ)
 after table done first second =
     let text = first ∷ second ∷ [] in
-    spelled (inputReply (inputTold text 0 (inputOn (lookup table 4) [] Equal done text 0 (8 ∷ []))))
+    spelled (inputReply (inputTold text 0 (inputOn (lookup table 4) [] equalTo done text 0 (8 ∷ []))))
 
 -- marks 7 and then 8, of these components of ligature 1
 abbrev joined : Table → List Glyph → ℕ → ℕ → List (List ℕ)

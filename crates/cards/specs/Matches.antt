@@ -5,7 +5,7 @@ use mathlib.Core.List.{List, [], _∷_, _++_}
 use Prim.Native.Nat.{ℕ}
 use Rattle.glyph.specs.Reply.{Reply}
 use Rattle.verdict.specs.declared.Table.the-variants.{Gsub}
-use Rattle.verdict.specs.declared.Test.the-variants.{Equal}
+use Rattle.verdict.specs.Verdict.{equalTo}
 use Rattle.matching.specs.declared.Lookup.{Lookup}
 use Rattle.matching.specs.Answers.{inputReply}
 use Rattle.calls.specs.Calls.{inputOf}
@@ -31,7 +31,7 @@ spelled r = (r .number ∷ []) ∷ r .values ∷ []
 
 -- input matching over a row of n glyphs with the cursor at 0, no glyphs before and no mark sets
 abbrev pub matched : ℕ → ℕ → List ℕ → List ℕ → List (List ℕ)
-matched props n row values = spelled (inputReply (inputOf [] 0 row n 0 (lookup props) [] Equal values))
+matched props n row values = spelled (inputReply (inputOf [] 0 row n 0 (lookup props) [] equalTo values))
 
 abbrev success : List ℕ → List (List ℕ)
 success values = (0 ∷ []) ∷ values ∷ []

@@ -11,6 +11,7 @@ ghost use mathlib.Core.Path.{_≡_};
 ghost use Prim.Native.Nat.{_≤_};
 ghost use lib.ListN.{length};
 ghost use Rattle.glyph.specs.Glyph.{glyphsOf};
+ghost use Rattle.verdict.specs.Verdict.{valueBy};
 ghost use Rattle.matching.specs.Take.{ahead, behind};
 ghost use Rattle.matching.specs.Matchers.{aheadOn, backOn, firstOrNone, backwardRow};
 ghost use Rattle.matching.specs.Answers.{contextTold};
@@ -23,10 +24,11 @@ pub fn lookahead(
     lookup: Lookup,
     sets: &[u16],
     test: Test,
+    lists: &[u16],
     values: &[u32],
 ) -> ContextMatch
     requires { ⌜ start ≤ length (glyphsOf (now text)) ⌝ }
-    ensures { λ r. ⌜ r ≡ contextTold (ahead (length (glyphsOf (now (text .entry))))) start (aheadOn lookup (now (sets .entry)) test (glyphsOf (now (text .entry))) start syllable (now (values .entry))) ⌝ }
+    ensures { λ r. ⌜ r ≡ contextTold (ahead (length (glyphsOf (now (text .entry))))) start (aheadOn lookup (now (sets .entry)) (valueBy test (now (lists .entry))) (glyphsOf (now (text .entry))) start syllable (now (values .entry))) ⌝ }
 {
     let m = verdict::matcher_of(lookup.settings, true, lookup.mask, lookup.props);
     let onward = glyph::onward(text, start);
@@ -38,7 +40,7 @@ pub fn lookahead(
             test,
             value: values[i],
         };
-        match walk::forward_from(onward, len, next, m, sign, syllable, sets) {
+        match walk::forward_from(onward, len, next, m, sign, lists, syllable, sets) {
             Walked::Found(q) => {
                 next = q + 1;
                 i += 1;
@@ -59,9 +61,10 @@ pub fn backtrack(
     lookup: Lookup,
     sets: &[u16],
     test: Test,
+    lists: &[u16],
     values: &[u32],
 ) -> ContextMatch
-    ensures { λ r. ⌜ r ≡ contextTold behind (length (glyphsOf (now (row .entry)))) (backOn lookup (now (sets .entry)) test (glyphsOf (now (row .entry))) syllable (now (values .entry))) ⌝ }
+    ensures { λ r. ⌜ r ≡ contextTold behind (length (glyphsOf (now (row .entry)))) (backOn lookup (now (sets .entry)) (valueBy test (now (lists .entry))) (glyphsOf (now (row .entry))) syllable (now (values .entry))) ⌝ }
 {
     let m = verdict::matcher_of(lookup.settings, true, lookup.mask, lookup.props);
     let mut place = glyph::count(row);
@@ -74,7 +77,7 @@ pub fn backtrack(
         let g = glyph::read(row, place);
         if !skipping::is_skip_yes(m, sets, g) {
             let value = values[i];
-            match judging::on_rest(m, Sign { test, value }, syllable, g) {
+            match judging::on_rest(m, Sign { test, value }, lists, syllable, g) {
                 Verdict::Match => i += 1,
                 Verdict::NotMatch => return ContextMatch::Lost(walk::back_extent(place)),
                 Verdict::Skip => {}

@@ -5,6 +5,8 @@ use matching::ContextMatch;
 use matching::InputAnswer;
 use matching::InputMatch;
 ghost use mathlib.Core.Path.{_≡_};
+ghost use mathlib.Core.List.{[]};
+ghost use Rattle.verdict.specs.Verdict.{valueBy};
 ghost use Rattle.calls.specs.Calls.{inputOf, aheadOf, backOf};
 ghost use Rattle.numbers.specs.Numbers.{testOf};
 ghost use Rattle.desk.specs.Matches.{lookupOf, toldOf, matchedOf, placedOf};
@@ -38,7 +40,7 @@ pub extern "C" fn cb_match_input(
     test: u8,
     values: &[u32],
 ) -> Matched
-    ensures { λ r. ⌜ r ≡ matchedOf (inputOf (now (done .entry)) d (now (coming .entry)) len idx (lookupOf lookup) (now (sets .entry)) (testOf test) (now (values .entry))) ⌝ }
+    ensures { λ r. ⌜ r ≡ matchedOf (inputOf (now (done .entry)) d (now (coming .entry)) len idx (lookupOf lookup) (now (sets .entry)) (valueBy (testOf test) []) (now (values .entry))) ⌝ }
 {
     input_told(calls::match_input(
         done,
@@ -66,7 +68,7 @@ pub extern "C" fn cb_match_lookahead(
     test: u8,
     values: &[u32],
 ) -> Placed
-    ensures { λ r. ⌜ r ≡ placedOf (aheadOf (now (done .entry)) d (now (coming .entry)) len idx start (lookupOf lookup) (now (sets .entry)) (testOf test) (now (values .entry))) ⌝ }
+    ensures { λ r. ⌜ r ≡ placedOf (aheadOf (now (done .entry)) d (now (coming .entry)) len idx start (lookupOf lookup) (now (sets .entry)) (valueBy (testOf test) []) (now (values .entry))) ⌝ }
 {
     context_told(calls::match_lookahead(
         done,
@@ -94,7 +96,7 @@ pub extern "C" fn cb_match_backtrack<'a>(
     test: u8,
     values: &[u32],
 ) -> Placed
-    ensures { λ r. ⌜ r ≡ placedOf (backOf (now (done .entry)) d (now (coming .entry)) len idx (lookupOf lookup) (now (sets .entry)) (testOf test) (now (values .entry))) ⌝ }
+    ensures { λ r. ⌜ r ≡ placedOf (backOf (now (done .entry)) d (now (coming .entry)) len idx (lookupOf lookup) (now (sets .entry)) (valueBy (testOf test) []) (now (values .entry))) ⌝ }
 {
     context_told(calls::match_backtrack(
         done,

@@ -10,6 +10,8 @@ use verdict::Sign;
 use verdict::Verdict;
 use walk::Walked;
 ghost use mathlib.Core.Path.{_≡_};
+ghost use mathlib.Core.List.{[]};
+ghost use Rattle.verdict.specs.Verdict.{valueOf};
 ghost use Rattle.questions.specs.Ask.{askSkip, askMatch, askVerdict, skipReply, matchReply, verdictReply};
 ghost use Rattle.walk.specs.Calls.{forwardOf, backwardOf};
 ghost use Rattle.desk.specs.Walks.{settingsOf, matcherFor, signOf, saidOf, stepOf};
@@ -69,7 +71,7 @@ pub extern "C" fn cb_may_match(
     context: bool,
     sought: Sought,
 ) -> Said
-    ensures { λ r. ⌜ r ≡ saidOf (matchReply (askMatch (now (row .entry)) place (matcherFor lookup context) (signOf sought) (sought .syllable))) ⌝ }
+    ensures { λ r. ⌜ r ≡ saidOf (matchReply (askMatch (now (row .entry)) place (matcherFor lookup context) (valueOf (signOf sought) []) (sought .syllable))) ⌝ }
 {
     said_match(questions::ask_match(
         row,
@@ -89,7 +91,7 @@ pub extern "C" fn cb_verdict(
     sought: Sought,
     sets: &[u16],
 ) -> Said
-    ensures { λ r. ⌜ r ≡ saidOf (verdictReply (askVerdict (now (row .entry)) place (matcherFor lookup context) (signOf sought) (sought .syllable) (now (sets .entry)))) ⌝ }
+    ensures { λ r. ⌜ r ≡ saidOf (verdictReply (askVerdict (now (row .entry)) place (matcherFor lookup context) (valueOf (signOf sought) []) (sought .syllable) (now (sets .entry)))) ⌝ }
 {
     said_verdict(questions::ask_verdict(
         row,
@@ -111,7 +113,7 @@ pub extern "C" fn cb_forward(
     sought: Sought,
     sets: &[u16],
 ) -> Step
-    ensures { λ r. ⌜ r ≡ stepOf (forwardOf (now (row .entry)) len place (matcherFor lookup context) (signOf sought) (sought .syllable) (now (sets .entry))) ⌝ }
+    ensures { λ r. ⌜ r ≡ stepOf (forwardOf (now (row .entry)) len place (matcherFor lookup context) (valueOf (signOf sought) []) (sought .syllable) (now (sets .entry))) ⌝ }
 {
     stepped(walk::forward(
         row,
@@ -133,7 +135,7 @@ pub extern "C" fn cb_backward(
     sought: Sought,
     sets: &[u16],
 ) -> Step
-    ensures { λ r. ⌜ r ≡ stepOf (backwardOf (now (row .entry)) place (matcherFor lookup context) (signOf sought) (sought .syllable) (now (sets .entry))) ⌝ }
+    ensures { λ r. ⌜ r ≡ stepOf (backwardOf (now (row .entry)) place (matcherFor lookup context) (valueOf (signOf sought) []) (sought .syllable) (now (sets .entry))) ⌝ }
 {
     stepped(walk::backward(
         row,

@@ -1,7 +1,7 @@
 -- Each reason is a reason for the answer given; and what it says of the lookup and the glyph is so. Test by test, as the definitions go.
 use Prim.Native.Nat.{ℕ, _/_, _%_, _^_}
 use mathlib.Core.Path.{_≡_, refl, sym}
-use mathlib.Core.List.{List}
+use mathlib.Core.List.{List, []}
 use mathlib.Core.Bool.{Bool, true, false, not, cond, _&&_, _||_}
 use native.Mathlib.Omega.{arith}
 use borrow.Author.Tests.{eq-eqb, ne-eqb, eqb-true, not-true, not-false}
@@ -62,20 +62,21 @@ equal-by : (b : Bool) → matchFor (cond b EqualId OtherId) ≡ yesIf b
 equal-by true = refl
 equal-by false = refl
 
-value-by : (t : Test) (value : ℕ) (g : Glyph) → matchFor (valueReason t value (g .id)) ≡ valueBy t value g
+value-by : (t : Test) (value : ℕ) (g : Glyph) → matchFor (valueReason t value (g .id)) ≡ valueBy t [] value g
+unfolding valueBy
 value-by Equal value g = equal-by (eqb (g .id) value)
 value-by Any value g = refl
 value-by Nothing value g = refl
 
-pub match-told : (m : Matcher) (sign : Sign) (syllable : ℕ) (g : Glyph) → matchFor (matchReason m sign syllable g) ≡ matchOf m sign syllable g
-unfolding matchReason matchOf ruledOut valueOf
+pub match-told : (m : Matcher) (sign : Sign) (syllable : ℕ) (g : Glyph) → matchFor (matchReason m sign syllable g) ≡ matchOf m (valueOf sign []) syllable g
+unfolding matchReason matchOf ruledOut
 match-told m sign syllable g =
     match-by (eqb (bitAnd (g .mask) (m .mask)) 0) ((m .syllabic && not (eqb syllable 0)) && not (eqb syllable (g .syllable)))
-    (valueReason (sign .test) (sign .value) (g .id)) (valueBy (sign .test) (sign .value) g) (value-by (sign .test) (sign .value) g)
+    (valueReason (sign .test) (sign .value) (g .id)) (valueBy (sign .test) [] (sign .value) g) (value-by (sign .test) (sign .value) g)
 
 -- the two reasons tell the verdict
 pub verdict-told : (m : Matcher) (sign : Sign) (syllable : ℕ) (sets : List ℕ) (g : Glyph)
-    → verdictOf (skipFor (skipReason m sets g)) (matchFor (matchReason m sign syllable g)) ≡ verdict m sign syllable sets g
+    → verdictOf (skipFor (skipReason m sets g)) (matchFor (matchReason m sign syllable g)) ≡ verdict m (valueOf sign []) syllable sets g
 unfolding verdict
 verdict-told m sign syllable sets g = rw (skip-told m sets g, match-told m sign syllable g)
 

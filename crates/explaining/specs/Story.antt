@@ -10,6 +10,7 @@ use Rattle.glyph.specs.declared.Glyph.{Glyph}
 use Rattle.glyph.specs.Glyph.{blank}
 use Rattle.verdict.specs.declared.Matcher.{Matcher}
 use Rattle.verdict.specs.declared.Test.{Test}
+use Rattle.verdict.specs.Verdict.{valueBy}
 use Rattle.verdict.specs.declared.Verdict.{Verdict}
 use Rattle.verdict.specs.declared.Verdict.the-variants.{Match, NotMatch, Skip}
 use Rattle.walk.specs.declared.Walked.{Walked}
@@ -61,7 +62,7 @@ turnAt m sets test searched gs idx x p =
 
 -- input matching is the story of the glyphs after the cursor
 pub input-story : (m : Matcher) (sets : List ℕ) (test : Test) (searched gs : List Glyph) (idx : ℕ) (values : List ℕ) → idx < length gs
-    → inputBy m sets test searched gs idx values ≡ storyOf (turnAt m sets test searched gs idx) (length gs - (idx + 1)) (idx + 1) values
+    → inputBy m sets (valueBy test []) searched gs idx values ≡ storyOf (turnAt m sets test searched gs idx) (length gs - (idx + 1)) (idx + 1) values
 unfolding inputBy
 input-story m sets test searched gs idx values h =
-    sym (story-takes (judge m sets test (getD gs idx blank .syllable) gs) (joins m sets searched gs idx) (length gs) (length gs - (idx + 1)) (idx + 1) values (omega arith))
+    sym (story-takes (judge m sets (valueBy test []) (getD gs idx blank .syllable) gs) (joins m sets searched gs idx) (length gs) (length gs - (idx + 1)) (idx + 1) values (omega arith))

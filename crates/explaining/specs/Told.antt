@@ -1,13 +1,13 @@
 -- What is told of a later glyph, from the definitions of `verdict` and `ligature`, and what it makes of the match (01, port orders 3 and 5).
 use Prim.Native.Nat.{ℕ}
-use mathlib.Core.List.{List}
+use mathlib.Core.List.{List, []}
 use mathlib.Core.Bool.{Bool, cond}
 use Rattle.glyph.specs.declared.Glyph.{Glyph}
 use Rattle.verdict.specs.declared.Matcher.{Matcher}
 use Rattle.verdict.specs.declared.Sign.{Sign}
 use Rattle.verdict.specs.declared.Verdict.{Verdict}
 use Rattle.verdict.specs.declared.Verdict.the-variants.{Match, NotMatch, Skip}
-use Rattle.verdict.specs.Verdict.{skipOf, matchOf, verdict}
+use Rattle.verdict.specs.Verdict.{valueOf, skipOf, matchOf, verdict}
 use Rattle.ligature.specs.declared.Ligbase.{Ligbase}
 use Rattle.ligature.specs.Ligature.{mayJoin, baseSkips}
 use Rattle.explaining.specs.declared.Seen.{Seen}
@@ -21,9 +21,9 @@ abbrev pub seenOf : Matcher → Sign → ℕ → List ℕ → Glyph → Seen
 seenOf m sign syllable sets g = record {
   skip = skipOf m sets g;
   why = skipReason m sets g;
-  may = matchOf m sign syllable g;
+  may = matchOf m (valueOf sign []) syllable g;
   how = matchReason m sign syllable g;
-  verdict = verdict m sign syllable sets g;
+  verdict = verdict m (valueOf sign []) syllable sets g;
 }
 
 -- `base` is what a search made for this glyph would know, `joins` the rule itself
@@ -45,5 +45,5 @@ abbrev pub toldOf : Matcher → List ℕ → Sign → Glyph → Glyph → List G
 toldOf m sets sign first this searched = record {
   seen = seenOf m sign (first .syllable) sets this;
   joined = joinedOf first this searched m sets;
-  turn = turnBy (verdict m sign (first .syllable) sets this) (mayJoin first this (baseSkips m sets (first .lig) searched));
+  turn = turnBy (verdict m (valueOf sign []) (first .syllable) sets this) (mayJoin first this (baseSkips m sets (first .lig) searched));
 }

@@ -178,12 +178,13 @@ fn why_match(m: Matcher, sign: Sign, syllable: u8, g: Glyph) -> MatchReason
 fn see(m: Matcher, sign: Sign, syllable: u8, sets: &[u16], g: Glyph) -> Seen
     ensures { λ r. ⌜ r ≡ seenOf m sign syllable (now (sets .entry)) g ⌝ }
 {
+    let none = [0u16; 0];
     Seen {
         skip: skipping::may_skip(m, sets, g),
         why: why_skip(m, sets, g),
-        may: judging::may_match(m, sign, syllable, g),
+        may: judging::may_match(m, sign, &none, syllable, g),
         how: why_match(m, sign, syllable, g),
-        verdict: judging::judge(m, sign, syllable, sets, g),
+        verdict: judging::judge(m, sign, &none, syllable, sets, g),
     }
 }
 

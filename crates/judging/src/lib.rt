@@ -25,8 +25,8 @@ fn yes_if(b: bool) -> MayMatch
 }
 
 // The value alone.
-fn on_value(sign: Sign, g: Glyph) -> MayMatch
-    ensures { λ r. ⌜ r ≡ valueOf sign g ⌝ }
+fn on_value(sign: Sign, lists: &[u16], g: Glyph) -> MayMatch
+    ensures { λ r. ⌜ r ≡ valueOf sign (now (lists .entry)) g ⌝ }
 {
     let test = sign.test;
     match test {
@@ -36,13 +36,13 @@ fn on_value(sign: Sign, g: Glyph) -> MayMatch
     }
 }
 
-pub fn may_match(m: Matcher, sign: Sign, syllable: u8, g: Glyph) -> MayMatch
-    ensures { λ r. ⌜ r ≡ matchOf m sign syllable g ⌝ }
+pub fn may_match(m: Matcher, sign: Sign, lists: &[u16], syllable: u8, g: Glyph) -> MayMatch
+    ensures { λ r. ⌜ r ≡ matchOf m (valueOf sign (now (lists .entry))) syllable g ⌝ }
 {
     if is_ruled_out(m, syllable, g) {
         return MayMatch::No;
     }
-    on_value(sign, g)
+    on_value(sign, lists, g)
 }
 
 // An ignorable glyph is passed over.
@@ -64,21 +64,21 @@ fn weigh(ignorable: bool, m: MayMatch) -> Verdict
 }
 
 // The verdict on a glyph that isn't skip Yes.
-pub fn on_rest(m: Matcher, sign: Sign, syllable: u8, g: Glyph) -> Verdict
-    ensures { λ r. ⌜ r ≡ restOf m sign syllable g ⌝ }
+pub fn on_rest(m: Matcher, sign: Sign, lists: &[u16], syllable: u8, g: Glyph) -> Verdict
+    ensures { λ r. ⌜ r ≡ restOf m (valueOf sign (now (lists .entry))) syllable g ⌝ }
 {
     weigh(
         skipping::is_ignorable(m, g),
-        may_match(m, sign, syllable, g),
+        may_match(m, sign, lists, syllable, g),
     )
 }
 
 // The verdict on a glyph.
-pub fn judge(m: Matcher, sign: Sign, syllable: u8, sets: &[u16], g: Glyph) -> Verdict
-    ensures { λ r. ⌜ r ≡ verdict m sign syllable (now (sets .entry)) g ⌝ }
+pub fn judge(m: Matcher, sign: Sign, lists: &[u16], syllable: u8, sets: &[u16], g: Glyph) -> Verdict
+    ensures { λ r. ⌜ r ≡ verdict m (valueOf sign (now (lists .entry))) syllable (now (sets .entry)) g ⌝ }
 {
     if skipping::is_skip_yes(m, sets, g) {
         return Verdict::Skip;
     }
-    on_rest(m, sign, syllable, g)
+    on_rest(m, sign, lists, syllable, g)
 }

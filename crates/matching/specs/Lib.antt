@@ -8,3 +8,4 @@ pub mod Demand2Laws
 pub mod Rising
 pub mod Shift
 pub mod Promises
+pub mod Kinds

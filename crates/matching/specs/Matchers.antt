@@ -10,17 +10,16 @@ use Rattle.glyph.specs.Glyph.{limit, blank}
 use Rattle.verdict.specs.declared.Matcher.{Matcher}
 use Rattle.verdict.specs.declared.Table.{Table}
 use Rattle.verdict.specs.declared.Table.the-variants.{Gsub, Gpos}
-use Rattle.verdict.specs.declared.Test.{Test}
 use Rattle.verdict.specs.declared.Verdict.{Verdict}
 use Rattle.verdict.specs.Matcher.{matcherOf}
-use Rattle.verdict.specs.Verdict.{judgeAt}
+use Rattle.verdict.specs.Verdict.{Asked, judgeAt}
 use Rattle.matching.specs.declared.Lookup.{Lookup}
 use Rattle.ligature.specs.Ligature.{mayJoin, baseSkips}
 use Rattle.matching.specs.Take.{slots, Outcome, ahead, behind, takes}
 
--- the verdict on a value and a place
-abbrev pub judge : Matcher → List ℕ → Test → ℕ → List Glyph → ℕ → ℕ → Verdict
-judge m sets test syllable gs x = judgeAt m (record { test = test; value = x }) syllable sets gs
+-- the verdict on a value and a place; values are of any kind, and the test says what each asks of a glyph
+abbrev pub judge : {X : Type 0} → Matcher → List ℕ → (X → Asked) → ℕ → List Glyph → X → ℕ → Verdict
+judge m sets test syllable gs x = judgeAt m (test x) syllable sets gs
 
 -- the ligature rule on a place, from the cursor
 abbrev pub joins : Matcher → List ℕ → List Glyph → List Glyph → ℕ → ℕ → Bool
@@ -33,7 +32,7 @@ abbrev pub anywhere : ℕ → Bool
 anywhere q = true
 
 -- input with a matcher; the starting syllable is the cursor glyph's, which is never tested
-unfoldable pub inputBy : Matcher → List ℕ → Test → List Glyph → List Glyph → ℕ → List ℕ → Outcome
+unfoldable pub inputBy : {X : Type 0} → Matcher → List ℕ → (X → Asked) → List Glyph → List Glyph → ℕ → List X → Outcome
 inputBy m sets test searched coming idx values =
     takes (ahead (length coming)) (judge m sets test (getD coming idx blank .syllable) coming) (joins m sets searched coming idx) (idx + 1) values
 
@@ -50,17 +49,17 @@ contextMatcherOf lookup = matcherOf (lookup .settings) true (lookup .mask) (look
 
 -- ---- the three
 
-unfoldable pub inputOn : Lookup → List ℕ → Test → List Glyph → List Glyph → ℕ → List ℕ → Outcome
+unfoldable pub inputOn : {X : Type 0} → Lookup → List ℕ → (X → Asked) → List Glyph → List Glyph → ℕ → List X → Outcome
 inputOn lookup sets test done coming idx values =
     inputBy (inputMatcherOf lookup) sets test (searchedGlyphs (lookup .settings .table) done) coming idx values
 
 -- from a start, the nearest value first; the starting syllable is handed in
-unfoldable pub aheadOn : Lookup → List ℕ → Test → List Glyph → ℕ → ℕ → List ℕ → Outcome
+unfoldable pub aheadOn : {X : Type 0} → Lookup → List ℕ → (X → Asked) → List Glyph → ℕ → ℕ → List X → Outcome
 aheadOn lookup sets test coming start syllable values =
     takes (ahead (length coming)) (judge (contextMatcherOf lookup) sets test syllable coming) anywhere start values
 
 -- from the end of the backward row; the first value is for the glyph nearest the cursor (OpenType, chapter GSUB, types 5 and 6)
-unfoldable pub backOn : Lookup → List ℕ → Test → List Glyph → ℕ → List ℕ → Outcome
+unfoldable pub backOn : {X : Type 0} → Lookup → List ℕ → (X → Asked) → List Glyph → ℕ → List X → Outcome
 backOn lookup sets test row syllable values =
     takes behind (judge (contextMatcherOf lookup) sets test syllable row) anywhere (length row) values
 

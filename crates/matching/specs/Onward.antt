@@ -6,9 +6,8 @@ use native.Mathlib.Omega.{arith}
 use lib.ListN.{length, drop, length-drop}
 use Rattle.glyph.specs.declared.Glyph.{Glyph}
 use Rattle.verdict.specs.declared.Matcher.{Matcher}
-use Rattle.verdict.specs.declared.Sign.{Sign}
 use Rattle.verdict.specs.declared.Verdict.{Verdict}
-use Rattle.verdict.specs.Verdict.{judgeAt}
+use Rattle.verdict.specs.Verdict.{Asked, judgeAt}
 use Rattle.walk.specs.declared.Walked.{Walked}
 use Rattle.walk.specs.declared.Walked.the-variants.{Found, Stopped, RanOut, Refused}
 use Rattle.walk.specs.Walk.{walkFrom}
@@ -32,7 +31,7 @@ pub walk-within : (v : ℕ → Verdict) (len next : ℕ) (r : Walked) → next �
 walk-within v len next r h e = within-means v len next r h (walk-means v len next r .0 (sym e))
 
 -- the walk over the part from `start` on, counted in the whole
-pub walk-part : (m : Matcher) (sign : Sign) (syllable : ℕ) (sets : List ℕ) (gs part : List Glyph) (start len next : ℕ) (r : Walked)
+pub walk-part : (m : Matcher) (sign : Asked) (syllable : ℕ) (sets : List ℕ) (gs part : List Glyph) (start len next : ℕ) (r : Walked)
     → start ≤ length gs → part ≡ drop start gs → len ≡ length part → r ≡ walkFrom (judgeAt m sign syllable sets part) len next
     → walkFrom (judgeAt m sign syllable sets gs) (length gs) (start + next) ≡ raised start r
 walk-part m sign syllable sets gs part start len next r h ep el er =

@@ -9,9 +9,8 @@ use lib.Seq.{getD-drop}
 use Rattle.glyph.specs.declared.Glyph.{Glyph}
 use Rattle.glyph.specs.Glyph.{blank}
 use Rattle.verdict.specs.declared.Matcher.{Matcher}
-use Rattle.verdict.specs.declared.Test.{Test}
 use Rattle.verdict.specs.declared.Verdict.{Verdict}
-use Rattle.verdict.specs.Verdict.{verdict}
+use Rattle.verdict.specs.Verdict.{Asked, verdict}
 use Rattle.walk.specs.declared.Walked.{Walked}
 use Rattle.walk.specs.declared.Walked.the-variants.{Found, Stopped, RanOut, Refused}
 use Rattle.walk.specs.Walk.{walkFrom}
@@ -34,8 +33,8 @@ raisedBy start unlike = unlike
 
 -- ---- judges and rules that agree
 
-module _ (way : Way) (u v : ℕ → ℕ → Verdict) (ok ok′ : ℕ → Bool) (same : (x k : ℕ) → u x k ≡ v x k) (same′ : (k : ℕ) → ok k ≡ ok′ k) where
-  walk-by-same : (way : Way) (x p : ℕ) → walkBy way (u x) p ≡ walkBy way (v x) p
+module _ {X : Type 0} (way : Way) (u v : X → ℕ → Verdict) (ok ok′ : ℕ → Bool) (same : (x : X) (k : ℕ) → u x k ≡ v x k) (same′ : (k : ℕ) → ok k ≡ ok′ k) where
+  walk-by-same : (way : Way) (x : X) (p : ℕ) → walkBy way (u x) p ≡ walkBy way (v x) p
   walk-by-same (ahead len) x p = walk-same (u x) (v x) len p (λ k l g. same x k)
   walk-by-same behind x p = back-same (u x) (v x) p (λ k l. same x k)
 
@@ -45,7 +44,7 @@ module _ (way : Way) (u v : ℕ → ℕ → Verdict) (ok ok′ : ℕ → Bool) (
   follow-same (RanOut extent) f g e = refl
   follow-same Refused f g e = refl
 
-  pub takes-same : (p : ℕ) (xs : List ℕ) → takes way u ok p xs ≡ takes way v ok′ p xs
+  pub takes-same : (p : ℕ) (xs : List X) → takes way u ok p xs ≡ takes way v ok′ p xs
   unfolding takes
   takes-same p [] = refl
   takes-same p (x ∷ xs) =
@@ -59,9 +58,9 @@ having-raised start q (taken qs) = refl
 having-raised start q (lost extent) = refl
 having-raised start q unlike = refl
 
-module _ (v : ℕ → ℕ → Verdict) (ok : ℕ → Bool) (start len : ℕ) where
+module _ {X : Type 0} (v : X → ℕ → Verdict) (ok : ℕ → Bool) (start len : ℕ) where
   -- the part's own judge and rule
-  abbrev v′ : ℕ → ℕ → Verdict
+  abbrev v′ : X → ℕ → Verdict
   v′ x i = v x (start + i)
 
   abbrev ok′ : ℕ → Bool
@@ -77,7 +76,7 @@ module _ (v : ℕ → ℕ → Verdict) (ok : ℕ → Bool) (start len : ℕ) whe
   by-walk (RanOut extent) f g n e = refl
   by-walk Refused f g n e = absurd (n refl)
 
-  pub takes-shift : (p : ℕ) (xs : List ℕ) → takes (ahead (start + len)) v ok (start + p) xs ≡ raisedBy start (takes (ahead len) v′ ok′ p xs)
+  pub takes-shift : (p : ℕ) (xs : List X) → takes (ahead (start + len)) v ok (start + p) xs ≡ raisedBy start (takes (ahead len) v′ ok′ p xs)
   unfolding takes
   takes-shift p [] = refl
   takes-shift p (x ∷ xs) =
@@ -104,8 +103,8 @@ module _ (gs : List Glyph) (start : ℕ) where
   first-shift : getD (drop start gs) 0 blank ≡ getD gs start blank
   first-shift = let e : start + 0 ≡ start = omega arith in glyph-shift 0 ∙ ap (λ (n : ℕ). getD gs n blank) e
 
-  judge-shift : (m : Matcher) (sets : List ℕ) (test : Test) (syllable x k : ℕ) → judge m sets test syllable gs x (start + k) ≡ judge m sets test syllable (drop start gs) x k
-  judge-shift m sets test syllable x k = ap (verdict m (record { test = test; value = x }) syllable sets) (sym (glyph-shift k))
+  judge-shift : {X : Type 0} (m : Matcher) (sets : List ℕ) (test : X → Asked) (syllable : ℕ) (x : X) (k : ℕ) → judge m sets test syllable gs x (start + k) ≡ judge m sets test syllable (drop start gs) x k
+  judge-shift m sets test syllable x k = ap (verdict m (test x) syllable sets) (sym (glyph-shift k))
 
   joins-shift : (m : Matcher) (sets : List ℕ) (searched : List Glyph) (k : ℕ) → joins m sets searched gs start (start + k) ≡ joins m sets searched (drop start gs) 0 k
   joins-shift m sets searched k =
@@ -122,18 +121,18 @@ module _ (gs : List Glyph) (start : ℕ) where
   pub total-shift : (qs : List ℕ) → totalOf gs start (raisedAll start qs) ≡ totalOf (drop start gs) 0 qs
   total-shift qs = ap₂ (λ (a b : ℕ). a + b) (ap (λ (g : Glyph). g .count) (sym first-shift)) (ligated-shift qs)
 
-  module _ (lookup : Lookup) (sets : List ℕ) (test : Test) (h : start ≤ length gs) where
+  module _ {X : Type 0} (lookup : Lookup) (sets : List ℕ) (test : X → Asked) (h : start ≤ length gs) where
     -- input from the cursor `start`
-    pub input-shift : (done : List Glyph) (values : List ℕ) → inputOn lookup sets test done gs start values ≡ raisedBy start (inputOn lookup sets test done (drop start gs) 0 values)
+    pub input-shift : (done : List Glyph) (values : List X) → inputOn lookup sets test done gs start values ≡ raisedBy start (inputOn lookup sets test done (drop start gs) 0 values)
     unfolding inputOn inputBy
     input-shift done values =
         let m = inputMatcherOf lookup in
         let searched = searchedGlyphs (lookup .settings .table) done in
         let part = drop start gs in
         let s = getD gs start blank .syllable in
-        let v : ℕ → ℕ → Verdict = judge m sets test s gs in
+        let v : X → ℕ → Verdict = judge m sets test s gs in
         let ok : ℕ → Bool = joins m sets searched gs start in
-        let w : ℕ → ℕ → Verdict = judge m sets test (getD part 0 blank .syllable) part in
+        let w : X → ℕ → Verdict = judge m sets test (getD part 0 blank .syllable) part in
         let ok″ : ℕ → Bool = joins m sets searched part 0 in
         ap (λ (n : ℕ). takes (ahead n) v ok (start + 1) values) (whole h)
         ∙ takes-shift v ok start (length part) 1 values
@@ -143,13 +142,13 @@ module _ (gs : List Glyph) (start : ℕ) where
         (λ k. joins-shift m sets searched k) 1 values)
 
     -- lookahead from `start`
-    pub ahead-shift : (syllable : ℕ) (values : List ℕ) → aheadOn lookup sets test gs start syllable values ≡ raisedBy start (aheadOn lookup sets test (drop start gs) 0 syllable values)
+    pub ahead-shift : (syllable : ℕ) (values : List X) → aheadOn lookup sets test gs start syllable values ≡ raisedBy start (aheadOn lookup sets test (drop start gs) 0 syllable values)
     unfolding aheadOn
     ahead-shift syllable values =
         let m = contextMatcherOf lookup in
         let part = drop start gs in
-        let v : ℕ → ℕ → Verdict = judge m sets test syllable gs in
-        let w : ℕ → ℕ → Verdict = judge m sets test syllable part in
+        let v : X → ℕ → Verdict = judge m sets test syllable gs in
+        let w : X → ℕ → Verdict = judge m sets test syllable part in
         let e : start + 0 ≡ start = omega arith in
         ap₂ (λ (n p : ℕ). takes (ahead n) v anywhere p values) (whole h) (sym e)
         ∙ takes-shift v anywhere start (length part) 0 values

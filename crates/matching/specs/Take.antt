@@ -45,8 +45,8 @@ follow ok (Stopped extent) rest = lost extent
 follow ok (RanOut extent) rest = lost extent
 follow ok Refused rest = lost 0
 
--- each value takes the place that the walk for it finds, and the rule is asked before the next value
-unfoldable pub takes : Way → (ℕ → ℕ → Verdict) → (ℕ → Bool) → ℕ → List ℕ → Outcome
+-- each value, of whatever kind, takes the place that the walk for it finds, and the rule is asked before the next value
+unfoldable pub takes : {X : Type 0} → Way → (X → ℕ → Verdict) → (ℕ → Bool) → ℕ → List X → Outcome
 takes way v ok p [] = taken []
 takes way v ok p (x ∷ xs) = follow ok (walkBy way (v x) p) (λ q. takes way v ok (past way q) xs)
 

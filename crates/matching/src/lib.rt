@@ -11,6 +11,7 @@ ghost use mathlib.Core.List.{[]};
 ghost use Prim.Native.Nat.{_<_};
 ghost use lib.ListN.{length};
 ghost use Rattle.glyph.specs.Glyph.{glyphsOf};
+ghost use Rattle.verdict.specs.Verdict.{valueBy};
 ghost use Rattle.matching.specs.Take.{slots};
 ghost use Rattle.matching.specs.Matchers.{InputReady, inputBy, inputOn, searchedGlyphs};
 ghost use Rattle.matching.specs.Answers.{slotted, countOf, madeOf, inputTold};
@@ -72,17 +73,28 @@ pub fn input(
     lookup: Lookup,
     sets: &[u16],
     test: Test,
+    lists: &[u16],
     values: &[u32],
 ) -> InputMatch
     requires { ⌜ InputReady (glyphsOf (now text)) idx (now values) ⌝ }
-    ensures { λ r. ⌜ r ≡ inputTold (glyphsOf (now (text .entry))) idx (inputOn lookup (now (sets .entry)) test (glyphsOf (now (before .entry))) (glyphsOf (now (text .entry))) idx (now (values .entry))) ⌝ }
+    ensures { λ r. ⌜ r ≡ inputTold (glyphsOf (now (text .entry))) idx (inputOn lookup (now (sets .entry)) (valueBy test (now (lists .entry))) (glyphsOf (now (before .entry))) (glyphsOf (now (text .entry))) idx (now (values .entry))) ⌝ }
 {
     let settings = lookup.settings;
     let table = settings.table;
     let m = verdict::matcher_of(settings, false, lookup.mask, lookup.props);
     let searched = searched_row(table, before);
     let mut positions = [0u16; 64];
-    let answer = take_input(searched, text, idx, m, sets, test, values, &mut positions);
+    let answer = take_input(
+        searched,
+        text,
+        idx,
+        m,
+        sets,
+        test,
+        lists,
+        values,
+        &mut positions,
+    );
     InputMatch {
         answer,
         count: count_of(answer, values.len()),
@@ -121,11 +133,12 @@ pub fn take_input(
     m: Matcher,
     sets: &[u16],
     test: Test,
+    lists: &[u16],
     values: &[u32],
     positions: &mut [u16; 64],
 ) -> InputAnswer
     requires { ⌜ InputReady (glyphsOf (now text)) idx (now values) × (now positions ≡ slotted []) ⌝ }
-    ensures { λ r. ⌜ madeOf r (length (now (values .entry))) (now (positions .exit)) ≡ inputTold (glyphsOf (now (text .entry))) idx (inputBy m (now (sets .entry)) test (glyphsOf (now (searched .entry))) (glyphsOf (now (text .entry))) idx (now (values .entry))) ⌝ }
+    ensures { λ r. ⌜ madeOf r (length (now (values .entry))) (now (positions .exit)) ≡ inputTold (glyphsOf (now (text .entry))) idx (inputBy m (now (sets .entry)) (valueBy test (now (lists .entry))) (glyphsOf (now (searched .entry))) (glyphsOf (now (text .entry))) idx (now (values .entry))) ⌝ }
 {
     let len = glyph::count(text);
     let first = glyph::read(text, idx);
@@ -143,7 +156,7 @@ pub fn take_input(
         let this = glyph::read(text, q);
         if !skipping::is_skip_yes(m, sets, this) {
             let value = values[i];
-            match judging::on_rest(m, Sign { test, value }, first.syllable, this) {
+            match judging::on_rest(m, Sign { test, value }, lists, first.syllable, this) {
                 Verdict::Match => {
                     base = ligature::look_for_base(base, first, this, searched, m, sets);
                     if !ligature::may_join(first, this, base) {

@@ -9,14 +9,13 @@ use Rattle.glyph.specs.Glyph.{glyphsOf, blank, illShaped}
 use Rattle.glyph.specs.Sets.{oddSets}
 use Rattle.glyph.specs.Reply.{Reply}
 use Rattle.verdict.specs.declared.Matcher.{Matcher}
-use Rattle.verdict.specs.declared.Sign.{Sign}
 use Rattle.verdict.specs.declared.MaySkip.{MaySkip}
 use Rattle.verdict.specs.declared.MayMatch.{MayMatch}
 use Rattle.verdict.specs.declared.Verdict.{Verdict}
 use Rattle.questions.specs.declared.SkipAnswer.{SkipAnswer}
 use Rattle.questions.specs.declared.MatchAnswer.{MatchAnswer}
 use Rattle.questions.specs.declared.VerdictAnswer.{VerdictAnswer}
-use Rattle.verdict.specs.Verdict.{skipOf, matchOf, verdict}
+use Rattle.verdict.specs.Verdict.{Asked, skipOf, matchOf, verdict}
 
 -- refusal 1: a row not whole glyphs or over the limit, a place at or past its glyphs
 unfoldable pub badPlace : List ℕ → ℕ → Bool
@@ -26,11 +25,11 @@ unfoldable pub askSkip : List ℕ → ℕ → Matcher → List ℕ → SkipAnswe
 askSkip row place m sets =
     cond (badPlace row place || oddSets sets) SkipAnswer.Refused (SkipAnswer.Said (skipOf m sets (getD (glyphsOf row) place blank)))
 
-unfoldable pub askMatch : List ℕ → ℕ → Matcher → Sign → ℕ → MatchAnswer
+unfoldable pub askMatch : List ℕ → ℕ → Matcher → Asked → ℕ → MatchAnswer
 askMatch row place m sign syllable =
     cond (badPlace row place) MatchAnswer.Refused (MatchAnswer.Said (matchOf m sign syllable (getD (glyphsOf row) place blank)))
 
-unfoldable pub askVerdict : List ℕ → ℕ → Matcher → Sign → ℕ → List ℕ → VerdictAnswer
+unfoldable pub askVerdict : List ℕ → ℕ → Matcher → Asked → ℕ → List ℕ → VerdictAnswer
 askVerdict row place m sign syllable sets =
     cond (badPlace row place || oddSets sets)
     VerdictAnswer.Refused

@@ -5,8 +5,10 @@ use verdict::MaySkip;
 use verdict::Sign;
 use verdict::Verdict;
 ghost use mathlib.Core.Path.{_≡_};
+ghost use mathlib.Core.List.{[]};
 ghost use mathlib.Core.Bool.{_||_};
 ghost use Rattle.glyph.specs.Sets.{oddSets};
+ghost use Rattle.verdict.specs.Verdict.{valueOf};
 ghost use Rattle.questions.specs.Ask.{badPlace, askSkip, askMatch, askVerdict};
 
 pub enum SkipAnswer {
@@ -39,12 +41,14 @@ pub fn ask_skip(row: &[u32], place: usize, m: Matcher, sets: &[u16]) -> SkipAnsw
 
 // May the glyph at a place of a row match?
 pub fn ask_match(row: &[u32], place: usize, m: Matcher, sign: Sign, syllable: u8) -> MatchAnswer
-    ensures { λ r. ⌜ r ≡ askMatch (now (row .entry)) place m sign syllable ⌝ }
+    ensures { λ r. ⌜ r ≡ askMatch (now (row .entry)) place m (valueOf sign []) syllable ⌝ }
 {
     if is_bad_place(row, place) {
         return MatchAnswer::Refused;
     }
-    MatchAnswer::Said(judging::may_match(m, sign, syllable, glyph::read(row, place)))
+    let none = [0u16; 0];
+    let g = glyph::read(row, place);
+    MatchAnswer::Said(judging::may_match(m, sign, &none, syllable, g))
 }
 
 // What does a walk make of the glyph at a place of a row?
@@ -56,12 +60,14 @@ pub fn ask_verdict(
     syllable: u8,
     sets: &[u16],
 ) -> VerdictAnswer
-    ensures { λ r. ⌜ r ≡ askVerdict (now (row .entry)) place m sign syllable (now (sets .entry)) ⌝ }
+    ensures { λ r. ⌜ r ≡ askVerdict (now (row .entry)) place m (valueOf sign []) syllable (now (sets .entry)) ⌝ }
 {
     if is_refused(row, place, sets) {
         return VerdictAnswer::Refused;
     }
-    VerdictAnswer::Said(judging::judge(m, sign, syllable, sets, glyph::read(row, place)))
+    let none = [0u16; 0];
+    let g = glyph::read(row, place);
+    VerdictAnswer::Said(judging::judge(m, sign, &none, syllable, sets, g))
 }
 
 // A question about no glyph, or by mark sets that aren't pairs: refusal 1.

@@ -9,7 +9,7 @@ use lib.ListN.{length, getD, take}
 use Rattle.glyph.specs.Glyph.{blank}
 use Rattle.text.specs.Text.{Text}
 use Rattle.verdict.specs.declared.Table.{Table}
-use Rattle.verdict.specs.declared.Test.{Test}
+use Rattle.verdict.specs.Verdict.{Asked, equalTo}
 use Rattle.matching.specs.declared.Lookup.{Lookup as Question}
 use Rattle.matching.specs.Take.{ahead, Outcome, taken, lost, unlike, reached}
 use Rattle.matching.specs.Matchers.{inputOn, aheadOn, backOn}
@@ -30,39 +30,41 @@ isTaken (taken places) = true
 isTaken (lost extent) = false
 isTaken unlike = false
 
--- ---- the matchers at the cursor, each value tested for an equal id
+-- ---- the matchers at the cursor; values are of any kind, and the test says what each asks of a glyph
 
 module _ (q : Question) (sets : List ℕ) (t : Text) where
-  abbrev pub inputAt : List ℕ → Outcome
-  inputAt values = inputOn q sets Test.Equal (take (t .cursor) (t .glyphs)) (t .glyphs) (t .cursor) values
-
   abbrev pub startingSyllable : ℕ
   startingSyllable = getD (t .glyphs) (t .cursor) blank .syllable
-
-  -- from a start on
-  abbrev pub aheadAt : ℕ → List ℕ → Outcome
-  aheadAt start values = aheadOn q sets Test.Equal (t .glyphs) start startingSyllable values
-
-  abbrev pub backAt : List ℕ → Outcome
-  backAt values = backOn q sets Test.Equal (take (t .cursor) (t .glyphs)) startingSyllable values
 
   -- the last of the places and one more
   abbrev pub endAfter : List ℕ → ℕ
   endAfter places = reached (ahead (length (t .glyphs))) (t .cursor + 1) places
 
-  -- lookahead starts at the input's end
-  abbrev pub contextMatched : List ℕ → List ℕ → List ℕ → Match
-  contextMatched back onward places =
-      cond (isTaken (aheadAt (endAfter places) onward) && isTaken (backAt back)) (Matched (t .cursor ∷ places) (endAfter places)) Unmatched
+module _ {X : Type 0} (q : Question) (sets : List ℕ) (test : X → Asked) (t : Text) where
+  abbrev pub inputAt : List X → Outcome
+  inputAt values = inputOn q sets test (take (t .cursor) (t .glyphs)) (t .glyphs) (t .cursor) values
 
-  abbrev pub afterInput : List ℕ → List ℕ → Outcome → Match
+  -- from a start on
+  abbrev pub aheadAt : ℕ → List X → Outcome
+  aheadAt start values = aheadOn q sets test (t .glyphs) start (startingSyllable q sets t) values
+
+  abbrev pub backAt : List X → Outcome
+  backAt values = backOn q sets test (take (t .cursor) (t .glyphs)) (startingSyllable q sets t) values
+
+  -- lookahead starts at the input's end
+  abbrev pub contextMatched : List X → List X → List ℕ → Match
+  contextMatched back onward places =
+      cond (isTaken (aheadAt (endAfter q sets t places) onward) && isTaken (backAt back)) (Matched (t .cursor ∷ places) (endAfter q sets t places)) Unmatched
+
+  abbrev pub afterInput : List X → List X → Outcome → Match
   afterInput back onward (taken places) = contextMatched back onward places
   afterInput back onward (lost extent) = Unmatched
   afterInput back onward unlike = Unmatched
 
+-- each value is tested for an equal id
 unfoldable pub chainMatch : Given → List ℕ → Lookup → Text → Match
 chainMatch given sets (Kind1 props from to) t = Unmatched
 chainMatch given sets (Kind2 props from ids) t = Unmatched
 chainMatch given sets (Kind3 props first back input onward records) t =
     let q = asks given props in
-    cond (eqb (getD (t .glyphs) (t .cursor) blank .id) first) (afterInput q sets t back onward (inputAt q sets t input)) Unmatched
+    cond (eqb (getD (t .glyphs) (t .cursor) blank .id) first) (afterInput q sets equalTo t back onward (inputAt q sets equalTo t input)) Unmatched

@@ -9,7 +9,7 @@ use lib.Dec.{eqb}
 use lib.ListN.{length, getD, take}
 use Rattle.glyph.specs.Glyph.{blank}
 use Rattle.text.specs.Text.{Text}
-use Rattle.verdict.specs.declared.Test.{Test}
+use Rattle.verdict.specs.Verdict.{Asked, equalTo}
 use Rattle.verdict.specs.declared.Verdict.{Verdict}
 use Rattle.matching.specs.declared.Lookup.{Lookup as Question}
 use Rattle.matching.specs.Take.{ahead, Outcome, taken, lost, unlike, reached}
@@ -30,8 +30,8 @@ abbrev pub FewValues : List Lookup → Type 0
 FewValues book = (k props first : ℕ) (back input onward : List ℕ) (records : List Record) → lookupAt k book ≡ Is (Kind3 props first back input onward records) → length input ≤ mostInput
 
 -- accepted places rise to the end
-module _ {v : ℕ → ℕ → Verdict} {ok : ℕ → Bool} where
-  places-rise : {len p : ℕ} {values places : List ℕ} → Accepts (ahead len) v ok p values places → Rises p (reached (ahead len) p places) places
+module _ {X : Type 0} {v : X → ℕ → Verdict} {ok : ℕ → Bool} where
+  places-rise : {len p : ℕ} {values : List X} {places : List ℕ} → Accepts (ahead len) v ok p values places → Rises p (reached (ahead len) p places) places
   unfolding reached
   places-rise none = rises.none
   places-rise {len} (more {q = q} {qs = qs} t k a) =
@@ -40,8 +40,8 @@ module _ {v : ℕ → ℕ → Verdict} {ok : ℕ → Bool} where
       let n : q ≤ reached (ahead len) (q + 1) qs = omega (arith, e .0) in
       rises.next q (t .later) n (places-rise a)
 
-module _ (q : Question) (sets : List ℕ) (t : Text) (h : t .cursor < length (t .glyphs)) where
-  input-fitting : (values places : List ℕ) → length values ≤ mostInput → inputAt q sets t values ≡ taken places → Fitting t (Matched (t .cursor ∷ places) (endAfter q sets t places))
+module _ {X : Type 0} (q : Question) (sets : List ℕ) (test : X → Asked) (t : Text) (h : t .cursor < length (t .glyphs)) where
+  input-fitting : (values : List X) (places : List ℕ) → length values ≤ mostInput → inputAt q sets test t values ≡ taken places → Fitting t (Matched (t .cursor ∷ places) (endAfter q sets t places))
   unfolding inputOn inputBy
   input-fitting values places few e =
       let a = demand-2 _ _ _ _ values .accepted places .0 e in
@@ -54,14 +54,14 @@ module _ (q : Question) (sets : List ℕ) (t : Text) (h : t .cursor < length (t 
         within = i .1;
       }
 
-  context-fitting : (back onward places : List ℕ) → Fitting t (Matched (t .cursor ∷ places) (endAfter q sets t places)) → Fitting t (contextMatched q sets t back onward places)
-  context-fitting back onward places f = by (isTaken (aheadAt q sets t (endAfter q sets t places) onward) && isTaken (backAt q sets t back))
+  context-fitting : (back onward : List X) (places : List ℕ) → Fitting t (Matched (t .cursor ∷ places) (endAfter q sets t places)) → Fitting t (contextMatched q sets test t back onward places)
+  context-fitting back onward places f = by (isTaken (aheadAt q sets test t (endAfter q sets t places) onward) && isTaken (backAt q sets test t back))
     where
       by : (b : Bool) → Fitting t (cond b (Matched (t .cursor ∷ places) (endAfter q sets t places)) Unmatched)
       by true = f
       by false = tt
 
-  after-fitting : (back onward values : List ℕ) → length values ≤ mostInput → (o : Outcome) → inputAt q sets t values ≡ o → Fitting t (afterInput q sets t back onward o)
+  after-fitting : (back onward values : List X) → length values ≤ mostInput → (o : Outcome) → inputAt q sets test t values ≡ o → Fitting t (afterInput q sets test t back onward o)
   after-fitting back onward values few (taken places) e = context-fitting back onward places (input-fitting values places few e)
   after-fitting back onward values few (lost extent) e = tt
   after-fitting back onward values few unlike e = tt
@@ -72,6 +72,6 @@ chain-fair given sets book few k (Kind1 props from to) t e h = tt
 chain-fair given sets book few k (Kind2 props from ids) t e h = tt
 chain-fair given sets book few k (Kind3 props first back input onward records) t e h = by (eqb (getD (t .glyphs) (t .cursor) blank .id) first)
   where
-    by : (b : Bool) → Fitting t (cond b (afterInput (asks given props) sets t back onward (inputAt (asks given props) sets t input)) Unmatched)
-    by true = after-fitting (asks given props) sets t h back onward input (few k props first back input onward records e) (inputAt (asks given props) sets t input) refl
+    by : (b : Bool) → Fitting t (cond b (afterInput (asks given props) sets equalTo t back onward (inputAt (asks given props) sets equalTo t input)) Unmatched)
+    by true = after-fitting (asks given props) sets equalTo t h back onward input (few k props first back input onward records e) (inputAt (asks given props) sets equalTo t input) refl
     by false = tt

@@ -4,6 +4,7 @@ use mathlib.Core.List.{List, []}
 use lib.ListN.{length}
 use Rattle.glyph.specs.Glyph.{words}
 use Rattle.verdict.specs.declared.Test.{Test}
+use Rattle.verdict.specs.Verdict.{valueBy}
 use Rattle.matching.specs.declared.Lookup.{Lookup}
 use Rattle.matching.specs.declared.InputMatch.{InputMatch}
 use Rattle.matching.specs.Answers.{inputReply}
@@ -17,7 +18,7 @@ lookupOf f = record { settings = f .settings; mask = f .mask; props = f .props }
 -- every record of both rows counts, and a value matches an equal id
 unfoldable pub matchOf : Frame → InputMatch
 matchOf f =
-    inputOf (f .done) (length (f .done) / words) (f .coming) (length (f .coming) / words) (f .cursor) (lookupOf f) [] Test.Equal (f .values)
+    inputOf (f .done) (length (f .done) / words) (f .coming) (length (f .coming) / words) (f .cursor) (lookupOf f) [] (valueBy Test.Equal []) (f .values)
 
 abbrev pub answerTo : Reading → List ℕ
 answerTo (that f) = answerBytes (inputReply (matchOf f))

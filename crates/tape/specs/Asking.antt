@@ -3,6 +3,7 @@ use Prim.Native.Nat.{ℕ, _/_}
 use mathlib.Core.List.{List, []}
 use Rattle.glyph.specs.Glyph.{words}
 use Rattle.verdict.specs.declared.Test.{Test}
+use Rattle.verdict.specs.Verdict.{valueBy}
 use Rattle.matching.specs.declared.InputMatch.{InputMatch}
 use Rattle.calls.specs.Calls.{inputOf}
 use Rattle.frame.specs.declared.Head.{Head}
@@ -11,4 +12,4 @@ use Rattle.frame.specs.declared.Head.{Head}
 unfoldable pub asked : Head → List ℕ → List ℕ → List ℕ → InputMatch
 asked h values done coming =
     inputOf done (h .done / words) coming (h .coming / words) (h .cursor)
-    (record { settings = h .settings; mask = h .mask; props = h .props }) [] Test.Equal values
+    (record { settings = h .settings; mask = h .mask; props = h .props }) [] (valueBy Test.Equal []) values

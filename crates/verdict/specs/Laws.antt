@@ -7,14 +7,13 @@ use lib.ListN.{getD}
 use Rattle.glyph.specs.declared.Glyph.{Glyph}
 use Rattle.glyph.specs.Glyph.{blank}
 use Rattle.verdict.specs.declared.Matcher.{Matcher}
-use Rattle.verdict.specs.declared.Sign.{Sign}
 use Rattle.verdict.specs.declared.MaySkip.{MaySkip}
 use Rattle.verdict.specs.declared.MayMatch.{MayMatch}
 use Rattle.verdict.specs.declared.Verdict.{Verdict}
 use Rattle.verdict.specs.declared.Verdict.the-variants.{Match, NotMatch, Skip}
-use Rattle.verdict.specs.Verdict.{skipYes, skipOf, verdict, verdictOf, restOf, judgeAt}
+use Rattle.verdict.specs.Verdict.{Asked, skipYes, skipOf, verdict, verdictOf, restOf, judgeAt}
 
-module _ (m : Matcher) (sign : Sign) (syllable : ℕ) (sets : List ℕ) (g : Glyph) where
+module _ (m : Matcher) (sign : Asked) (syllable : ℕ) (sets : List ℕ) (g : Glyph) where
   pub verdict-yes : skipYes m sets g ≡ true → verdict m sign syllable sets g ≡ Skip
   unfolding verdict skipOf
   verdict-yes e = rw e
@@ -24,7 +23,7 @@ module _ (m : Matcher) (sign : Sign) (syllable : ℕ) (sets : List ℕ) (g : Gly
   verdict-rest e = rw e
 
 -- the verdict on place p, from the glyph read there and what the code was told of it
-module _ (m : Matcher) (sign : Sign) (syllable : ℕ) (sets : List ℕ) (gs : List Glyph) (p : ℕ) where
+module _ (m : Matcher) (sign : Asked) (syllable : ℕ) (sets : List ℕ) (gs : List Glyph) (p : ℕ) where
   pub judged-yes : (g : Glyph) (b : Bool) → g ≡ getD gs p blank → b ≡ skipYes m sets g → b ≡ true
       → judgeAt m sign syllable sets gs p ≡ Skip
   judged-yes g b read told e = rw (← read) (verdict-yes m sign syllable sets g (sym told ∙ e))

@@ -79,17 +79,25 @@ ruledOut m syllable g =
 abbrev pub yesIf : Bool → MayMatch
 yesIf b = cond b MayMatch.Yes MayMatch.No
 
--- Yes or No by the value (equal id, or any), or Maybe where no test is set
-abbrev pub valueBy : Test → ℕ → Glyph → MayMatch
-valueBy Equal value g = yesIf (eqb (g .id) value)
-valueBy Any value g = MayMatch.Yes
-valueBy Nothing value g = MayMatch.Maybe
+-- what is asked of a glyph, beside the mask and the syllable: any test of it
+abbrev pub Asked : Type 0
+Asked = Glyph → MayMatch
 
-unfoldable pub valueOf : Sign → Glyph → MayMatch
-valueOf sign g = valueBy (sign .test) (sign .value) g
+-- the id is the value
+abbrev pub equalTo : ℕ → Asked
+equalTo value g = yesIf (eqb (g .id) value)
 
-unfoldable pub matchOf : Matcher → Sign → ℕ → Glyph → MayMatch
-matchOf m sign syllable g = cond (ruledOut m syllable g) MayMatch.No (valueOf sign g)
+-- Yes or No by the value (equal id, or any), or Maybe where no test is set. The lists are words lent beside the values; no test of today looks at them
+unfoldable pub valueBy : Test → List ℕ → ℕ → Asked
+valueBy Equal lists value g = equalTo value g
+valueBy Any lists value g = MayMatch.Yes
+valueBy Nothing lists value g = MayMatch.Maybe
+
+abbrev pub valueOf : Sign → List ℕ → Asked
+valueOf sign lists = valueBy (sign .test) lists (sign .value)
+
+unfoldable pub matchOf : Matcher → Asked → ℕ → Glyph → MayMatch
+matchOf m sign syllable g = cond (ruledOut m syllable g) MayMatch.No (sign g)
 
 -- ---- the verdict
 
@@ -103,15 +111,15 @@ verdictOf MaySkip.No MayMatch.No = NotMatch
 verdictOf MaySkip.Maybe MayMatch.No = Skip
 verdictOf MaySkip.Maybe MayMatch.Maybe = Skip
 
-unfoldable pub verdict : Matcher → Sign → ℕ → List ℕ → Glyph → Verdict
+unfoldable pub verdict : Matcher → Asked → ℕ → List ℕ → Glyph → Verdict
 verdict m sign syllable sets g = verdictOf (skipOf m sets g) (matchOf m sign syllable g)
 
 -- the judge of the places of a list of glyphs
-abbrev pub judgeAt : Matcher → Sign → ℕ → List ℕ → List Glyph → ℕ → Verdict
+abbrev pub judgeAt : Matcher → Asked → ℕ → List ℕ → List Glyph → ℕ → Verdict
 judgeAt m sign syllable sets gs i = verdict m sign syllable sets (getD gs i blank)
 
 -- ---- the code's side
 
 -- the verdict on a glyph that isn't skip Yes
-unfoldable pub restOf : Matcher → Sign → ℕ → Glyph → Verdict
+unfoldable pub restOf : Matcher → Asked → ℕ → Glyph → Verdict
 restOf m sign syllable g = verdictOf (cond (ignorable m g) MaySkip.Maybe MaySkip.No) (matchOf m sign syllable g)

@@ -11,8 +11,7 @@ use Rattle.glyph.specs.Glyph.{glyphsOf, illShaped}
 use Rattle.glyph.specs.Sets.{oddSets}
 use Rattle.bits.specs.Laws.{neither-left, neither-right}
 use Rattle.verdict.specs.declared.Matcher.{Matcher}
-use Rattle.verdict.specs.declared.Sign.{Sign}
-use Rattle.verdict.specs.Verdict.{judgeAt}
+use Rattle.verdict.specs.Verdict.{Asked, judgeAt}
 use Rattle.walk.specs.declared.Walked.{Walked}
 use Rattle.walk.specs.declared.Walked.the-variants.{Refused}
 use Rattle.walk.specs.Walk.{walkFrom, walkBack}
@@ -37,7 +36,7 @@ chosen : (b : Bool) (w : Walked) → (w ≡ Refused → ⊥) → (cond b Refused
 chosen true w n = (λ e. refl, λ e. refl)
 chosen false w n = (λ e. absurd (n e), λ e. ap (λ (b : Bool). cond b Refused w) e)
 
-module _ (row : List ℕ) (m : Matcher) (sign : Sign) (syllable : ℕ) (sets : List ℕ) where
+module _ (row : List ℕ) (m : Matcher) (sign : Asked) (syllable : ℕ) (sets : List ℕ) where
   module _ (len place : ℕ) where
     pub forward-refused : (forwardOf row len place m sign syllable sets ≡ Refused) ↔ (badWalk row len place sets ≡ true)
     unfolding forwardOf

@@ -8,8 +8,7 @@ use Rattle.glyph.specs.Glyph.{glyphsOf, illShaped}
 use Rattle.glyph.specs.Sets.{oddSets}
 use Rattle.glyph.specs.Reply.{Reply}
 use Rattle.verdict.specs.declared.Matcher.{Matcher}
-use Rattle.verdict.specs.declared.Sign.{Sign}
-use Rattle.verdict.specs.Verdict.{judgeAt}
+use Rattle.verdict.specs.Verdict.{Asked, judgeAt}
 use Rattle.walk.specs.declared.Walked.{Walked}
 use Rattle.walk.specs.declared.Walked.the-variants.{Found, Stopped, RanOut, Refused}
 use Rattle.walk.specs.Walk.{walkFrom, walkBack}
@@ -19,12 +18,12 @@ unfoldable pub badWalk : List ℕ → ℕ → ℕ → List ℕ → Bool
 badWalk row len place sets = ((illShaped row || ltb (length (glyphsOf row)) len) || ltb len place) || oddSets sets
 
 -- forward from a place, the next glyph tested is one later
-unfoldable pub forwardOf : List ℕ → ℕ → ℕ → Matcher → Sign → ℕ → List ℕ → Walked
+unfoldable pub forwardOf : List ℕ → ℕ → ℕ → Matcher → Asked → ℕ → List ℕ → Walked
 forwardOf row len place m sign syllable sets =
     cond (badWalk row len place sets) Refused (walkFrom (judgeAt m sign syllable sets (glyphsOf row)) len (place + 1))
 
 -- backward, every glyph of the row counts
-unfoldable pub backwardOf : List ℕ → ℕ → Matcher → Sign → ℕ → List ℕ → Walked
+unfoldable pub backwardOf : List ℕ → ℕ → Matcher → Asked → ℕ → List ℕ → Walked
 backwardOf row place m sign syllable sets =
     cond (badWalk row (length (glyphsOf row)) place sets) Refused (walkBack (judgeAt m sign syllable sets (glyphsOf row)) place)
 

@@ -8,10 +8,9 @@ use lib.Seq.{getD-drop, getD-take}
 use Rattle.glyph.specs.declared.Glyph.{Glyph}
 use Rattle.glyph.specs.Glyph.{blank}
 use Rattle.verdict.specs.declared.Matcher.{Matcher}
-use Rattle.verdict.specs.declared.Sign.{Sign}
 use Rattle.verdict.specs.declared.Verdict.{Verdict}
 use Rattle.verdict.specs.declared.Verdict.the-variants.{Match, NotMatch, Skip}
-use Rattle.verdict.specs.Verdict.{verdict, judgeAt}
+use Rattle.verdict.specs.Verdict.{Asked, verdict, judgeAt}
 use Rattle.walk.specs.declared.Walked.{Walked}
 use Rattle.walk.specs.declared.Walked.the-variants.{Found, Stopped, RanOut, Refused}
 use Rattle.walk.specs.Walk.{after, walk, walkFrom, afterBack, walkBack}
@@ -61,7 +60,7 @@ module _ (u v : ℕ → Verdict) where
   back-same zero h = refl
   back-same (suc p) h = rw (h p (omega arith)) (ap (afterBack (v p) p) (back-same p (λ k l. h k (omega arith))))
 
-module _ (m : Matcher) (sign : Sign) (syllable : ℕ) (sets : List ℕ) (gs : List Glyph) where
+module _ (m : Matcher) (sign : Asked) (syllable : ℕ) (sets : List ℕ) (gs : List Glyph) where
   -- the part from glyph `start` on
   pub walk-onward : (start len next : ℕ)
       → raised start (walkFrom (judgeAt m sign syllable sets (drop start gs)) len next)

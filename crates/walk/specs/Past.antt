@@ -7,10 +7,9 @@ use lib.ListN.{getD}
 use Rattle.glyph.specs.declared.Glyph.{Glyph}
 use Rattle.glyph.specs.Glyph.{blank}
 use Rattle.verdict.specs.declared.Matcher.{Matcher}
-use Rattle.verdict.specs.declared.Sign.{Sign}
 use Rattle.verdict.specs.declared.Verdict.{Verdict}
 use Rattle.verdict.specs.declared.Verdict.the-variants.{Skip}
-use Rattle.verdict.specs.Verdict.{skipYes, judgeAt}
+use Rattle.verdict.specs.Verdict.{Asked, skipYes, judgeAt}
 use Rattle.verdict.specs.Laws.{verdict-yes}
 use Rattle.stretch.specs.Stretch.{yesAt, AllYes}
 use Rattle.walk.specs.Walk.{walkFrom, walkBack}
@@ -46,7 +45,7 @@ module _ (v : ℕ → Verdict) where
       past-back (place - earlier) place (omega arith) (λ k i j. h k (omega arith) j) ∙ ap (walkBack v) s
 
 -- a stretch of places that are skip Yes is passed over
-pub stretch-passed : (m : Matcher) (sign : Sign) (syllable : ℕ) (sets : List ℕ) (gs : List Glyph) (a b : ℕ) → AllYes (yesAt (m .props) sets gs) a b
+pub stretch-passed : (m : Matcher) (sign : Asked) (syllable : ℕ) (sets : List ℕ) (gs : List Glyph) (a b : ℕ) → AllYes (yesAt (m .props) sets gs) a b
     → Passed (judgeAt m sign syllable sets gs) a b
 unfolding skipYes
 stretch-passed m sign syllable sets gs a b h i l g = verdict-yes m sign syllable sets (getD gs i blank) (h i l g)

@@ -8,9 +8,8 @@ use lib.ListN.{length}
 use Rattle.glyph.specs.Glyph.{limit, Row, glyphsOf}
 use Rattle.glyph.specs.Reply.{Reply}
 use Rattle.verdict.specs.declared.Matcher.{Matcher}
-use Rattle.verdict.specs.declared.Sign.{Sign}
 use Rattle.verdict.specs.declared.Verdict.{Verdict}
-use Rattle.verdict.specs.Verdict.{judgeAt}
+use Rattle.verdict.specs.Verdict.{Asked, judgeAt}
 use Rattle.walk.specs.declared.Walked.{Walked}
 use Rattle.walk.specs.Calls.{walkReply}
 use Rattle.walk.specs.Means.{Finds, Stops, RunsOut, FindsBack, StopsBack, RunsOutBack}
@@ -27,18 +26,18 @@ pub record Walkable (row : List ℕ) (len place : ℕ) (sets : List ℕ) : Type 
   pub sets-paired : length sets % 2 ≡ 0
 
 module _ (row : List ℕ) where
-  abbrev pub rowJudge : Matcher → Sign → ℕ → List ℕ → ℕ → Verdict
+  abbrev pub rowJudge : Matcher → Asked → ℕ → List ℕ → ℕ → Verdict
   rowJudge m sign syllable sets = judgeAt m sign syllable sets (glyphsOf row)
 
   -- forward from a place: the next glyph tested is one later
-  pub record ForwardPromise (len place : ℕ) (m : Matcher) (sign : Sign) (syllable : ℕ) (sets : List ℕ) (answer : Walked) : Type 0 where
+  pub record ForwardPromise (len place : ℕ) (m : Matcher) (sign : Asked) (syllable : ℕ) (sets : List ℕ) (answer : Walked) : Type 0 where
     pub refused-1 : (walkReply answer ≡ replies 1 []) ↔ (Walkable row len place sets → ⊥)
     pub found-0 : (q : ℕ) → (walkReply answer ≡ replies 0 (q ∷ [])) ↔ (Walkable row len place sets × Finds (rowJudge m sign syllable sets) len (place + 1) q)
     pub lost-4 : (extent : ℕ) → (walkReply answer ≡ replies 4 (extent ∷ []))
         ↔ (Walkable row len place sets × (Stops (rowJudge m sign syllable sets) len (place + 1) extent ⊎ RunsOut (rowJudge m sign syllable sets) len (place + 1) extent))
 
   -- backward: every glyph of the row counts
-  pub record BackwardPromise (place : ℕ) (m : Matcher) (sign : Sign) (syllable : ℕ) (sets : List ℕ) (answer : Walked) : Type 0 where
+  pub record BackwardPromise (place : ℕ) (m : Matcher) (sign : Asked) (syllable : ℕ) (sets : List ℕ) (answer : Walked) : Type 0 where
     pub refused-1 : (walkReply answer ≡ replies 1 []) ↔ (Walkable row (length (glyphsOf row)) place sets → ⊥)
     pub found-0 : (q : ℕ) → (walkReply answer ≡ replies 0 (q ∷ [])) ↔ (Walkable row (length (glyphsOf row)) place sets × FindsBack (rowJudge m sign syllable sets) place q)
     pub lost-4 : (extent : ℕ) → (walkReply answer ≡ replies 4 (extent ∷ []))

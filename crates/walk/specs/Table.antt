@@ -14,8 +14,7 @@ use Rattle.glyph.specs.Sets.{oddSets}
 use Rattle.glyph.specs.Reply.{Reply}
 use Rattle.bits.specs.Laws.{neither-left, neither-right}
 use Rattle.verdict.specs.declared.Matcher.{Matcher}
-use Rattle.verdict.specs.declared.Sign.{Sign}
-use Rattle.verdict.specs.Verdict.{judgeAt}
+use Rattle.verdict.specs.Verdict.{Asked, judgeAt}
 use Rattle.walk.specs.declared.Walked.{Walked}
 use Rattle.walk.specs.declared.Walked.the-variants.{Found, Stopped, RanOut, Refused}
 use Rattle.walk.specs.Calls.{badWalk, forwardOf, backwardOf, walkReply}
@@ -67,7 +66,7 @@ replies-1 (Stopped x) = (λ e. let z : _≡_ {A = ℕ} 4 1 = ap (λ (r : Reply).
 replies-1 (RanOut x) = (λ e. let z : _≡_ {A = ℕ} 4 1 = ap (λ (r : Reply). r .number) e in absurd (omega arith), λ e. let z : _≡_ {A = ℕ} 0 1 = cc in absurd (omega arith))
 replies-1 Refused = (λ e. refl, λ e. refl)
 
-module _ (row : List ℕ) (m : Matcher) (sign : Sign) (syllable : ℕ) (sets : List ℕ) where
+module _ (row : List ℕ) (m : Matcher) (sign : Asked) (syllable : ℕ) (sets : List ℕ) where
   forward-refused-1 : (len place : ℕ)
       → (walkReply (forwardOf row len place m sign syllable sets) ≡ replies 1 []) ↔ (Walkable row len place sets → ⊥)
   forward-refused-1 len place =
@@ -133,7 +132,7 @@ module _ (w : Walked) (bad : Bool) {W : Type 0} (good : (bad ≡ false) ↔ W) (
         lost-reply w x (⊎-elim (λ m. inl (means (Stopped x) b .1 m)) (λ m. inr (means (RanOut x) b .1 m)) (h .1)),
   )
 
-module _ (row : List ℕ) (m : Matcher) (sign : Sign) (syllable : ℕ) (sets : List ℕ) where
+module _ (row : List ℕ) (m : Matcher) (sign : Asked) (syllable : ℕ) (sets : List ℕ) where
   pub forward-keeps : (len place : ℕ) → ForwardPromise row len place m sign syllable sets (forwardOf row len place m sign syllable sets)
   forward-keeps len place =
       let w = forwardOf row len place m sign syllable sets in

@@ -3,10 +3,11 @@ use verdict::Matcher;
 use verdict::Sign;
 use verdict::Verdict;
 ghost use mathlib.Core.Path.{_≡_};
+ghost use mathlib.Core.List.{[]};
 ghost use Prim.Native.Nat.{_-_, _≤_, max};
 ghost use lib.ListN.{length};
 ghost use Rattle.glyph.specs.Glyph.{glyphsOf};
-ghost use Rattle.verdict.specs.Verdict.{judgeAt};
+ghost use Rattle.verdict.specs.Verdict.{valueOf, judgeAt};
 ghost use Rattle.walk.specs.Walk.{walkFrom, walkBack};
 ghost use Rattle.walk.specs.Calls.{badWalk, forwardOf, backwardOf};
 
@@ -31,13 +32,14 @@ pub fn forward(
     syllable: u8,
     sets: &[u16],
 ) -> Walked
-    ensures { λ r. ⌜ r ≡ forwardOf (now (row .entry)) len place m sign syllable (now (sets .entry)) ⌝ }
+    ensures { λ r. ⌜ r ≡ forwardOf (now (row .entry)) len place m (valueOf sign []) syllable (now (sets .entry)) ⌝ }
 {
     if is_bad_walk(row, len, place, sets) {
         return Walked::Refused;
     }
     let from = stretch::cross_ahead(row, len, place + 1, m.props, sets);
-    forward_on(row, len, from, m, sign, syllable, sets)
+    let none = [0u16; 0];
+    forward_on(row, len, from, m, sign, &none, syllable, sets)
 }
 
 // Back from a place of a row, to the glyph before it that isn't passed over.
@@ -49,13 +51,14 @@ pub fn backward(
     syllable: u8,
     sets: &[u16],
 ) -> Walked
-    ensures { λ r. ⌜ r ≡ backwardOf (now (row .entry)) place m sign syllable (now (sets .entry)) ⌝ }
+    ensures { λ r. ⌜ r ≡ backwardOf (now (row .entry)) place m (valueOf sign []) syllable (now (sets .entry)) ⌝ }
 {
     if is_bad_walk(row, glyph::count(row), place, sets) {
         return Walked::Refused;
     }
     let from = stretch::cross_behind(row, place, m.props, sets);
-    backward_from(row, from, m, sign, syllable, sets)
+    let none = [0u16; 0];
+    backward_from(row, from, m, sign, &none, syllable, sets)
 }
 
 // What a walk is refused for.
@@ -73,15 +76,16 @@ fn forward_on(
     next: usize,
     m: Matcher,
     sign: Sign,
+    lists: &[u16],
     syllable: u8,
     sets: &[u16],
 ) -> Walked
     requires { ⌜ len ≤ length (glyphsOf (now row)) ⌝ }
-    ensures { λ r. ⌜ r ≡ walkFrom (judgeAt m sign syllable (now (sets .entry)) (glyphsOf (now (row .entry)))) len next ⌝ }
+    ensures { λ r. ⌜ r ≡ walkFrom (judgeAt m (valueOf sign (now (lists .entry))) syllable (now (sets .entry)) (glyphsOf (now (row .entry)))) len next ⌝ }
 {
     let mut at = next;
     while at < len {
-        match judging::judge(m, sign, syllable, sets, glyph::read(row, at)) {
+        match judging::judge(m, sign, lists, syllable, sets, glyph::read(row, at)) {
             Verdict::Match => return Walked::Found(at),
             Verdict::NotMatch => return Walked::Stopped(at + 1),
             Verdict::Skip => {}
@@ -98,15 +102,16 @@ pub fn forward_from(
     next: usize,
     m: Matcher,
     sign: Sign,
+    lists: &[u16],
     syllable: u8,
     sets: &[u16],
 ) -> Walked
     requires { ⌜ len ≤ length (glyphsOf (now row)) ⌝ }
-    ensures { λ r. ⌜ r ≡ walkFrom (judgeAt m sign syllable (now (sets .entry)) (glyphsOf (now (row .entry)))) len next ⌝ }
+    ensures { λ r. ⌜ r ≡ walkFrom (judgeAt m (valueOf sign (now (lists .entry))) syllable (now (sets .entry)) (glyphsOf (now (row .entry)))) len next ⌝ }
 {
     let mut p = next;
     while p < len {
-        match judging::judge(m, sign, syllable, sets, glyph::read(row, p)) {
+        match judging::judge(m, sign, lists, syllable, sets, glyph::read(row, p)) {
             Verdict::Match => return Walked::Found(p),
             Verdict::NotMatch => return Walked::Stopped(p + 1),
             Verdict::Skip => {}
@@ -131,11 +136,12 @@ pub fn backward_from(
     place: usize,
     m: Matcher,
     sign: Sign,
+    lists: &[u16],
     syllable: u8,
     sets: &[u16],
 ) -> Walked
     requires { ⌜ place ≤ length (glyphsOf (now row)) ⌝ }
-    ensures { λ r. ⌜ r ≡ walkBack (judgeAt m sign syllable (now (sets .entry)) (glyphsOf (now (row .entry)))) place ⌝ }
+    ensures { λ r. ⌜ r ≡ walkBack (judgeAt m (valueOf sign (now (lists .entry))) syllable (now (sets .entry)) (glyphsOf (now (row .entry)))) place ⌝ }
 {
     let mut p = back_extent(place);
     if place == 0 {
@@ -143,7 +149,7 @@ pub fn backward_from(
     }
     loop {
         if !skipping::is_skip_yes(m, sets, glyph::read(row, p)) {
-            match judging::on_rest(m, sign, syllable, glyph::read(row, p)) {
+            match judging::on_rest(m, sign, lists, syllable, glyph::read(row, p)) {
                 Verdict::Match => return Walked::Found(p),
                 Verdict::NotMatch => return Walked::Stopped(back_extent(p)),
                 Verdict::Skip => {}

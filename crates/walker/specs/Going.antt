@@ -13,9 +13,8 @@ use Rattle.bits.specs.Laws.{neither-left, neither-right}
 use Rattle.glyph.specs.Glyph.{glyphsOf, illShaped}
 use Rattle.glyph.specs.Sets.{oddSets}
 use Rattle.verdict.specs.declared.Matcher.{Matcher}
-use Rattle.verdict.specs.declared.Sign.{Sign}
 use Rattle.verdict.specs.declared.Verdict.{Verdict}
-use Rattle.verdict.specs.Verdict.{judgeAt}
+use Rattle.verdict.specs.Verdict.{Asked, judgeAt}
 use Rattle.walk.specs.declared.Walked.{Walked}
 use Rattle.walk.specs.declared.Walked.the-variants.{Found, Stopped, RanOut, Refused}
 use Rattle.walk.specs.Calls.{badWalk, forwardOf, backwardOf}
@@ -51,7 +50,7 @@ open-still row len place len′ place′ sets e h k =
     let e₂ = neither-left (shape || past) (ltb len place) e₃ in
     rw (neither-left shape past e₂, le-ltb (length (glyphsOf row)) len′ k, le-ltb len′ place′ h, neither-right ((shape || past) || ltb len place) (oddSets sets) e) refl
 
-module _ (row : List ℕ) (m : Matcher) (sign : Sign) (syllable : ℕ) (sets : List ℕ) where
+module _ (row : List ℕ) (m : Matcher) (sign : Asked) (syllable : ℕ) (sets : List ℕ) where
   abbrev judge : ℕ → Verdict
   judge = judgeAt m sign syllable sets (glyphsOf row)
 

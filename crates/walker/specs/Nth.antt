@@ -3,11 +3,11 @@ use Prim.Native.Nat.{ℕ, suc}
 use mathlib.Core.Path.{_≡_, ap}
 use mathlib.Core.List.{List}
 use Rattle.verdict.specs.declared.Matcher.{Matcher}
-use Rattle.verdict.specs.declared.Sign.{Sign}
+use Rattle.verdict.specs.Verdict.{Asked}
 use Rattle.walk.specs.Calls.{forwardOf}
 use Rattle.walker.specs.Walker.{onward, nthOf}
 
-module _ (row : List ℕ) (len place : ℕ) (m : Matcher) (sign : Sign) (syllable : ℕ) (sets : List ℕ) where
+module _ (row : List ℕ) (len place : ℕ) (m : Matcher) (sign : Asked) (syllable : ℕ) (sets : List ℕ) where
   pub nth-on : (n k : ℕ) → n ≡ suc k
       → nthOf row len place n m sign syllable sets
       ≡ onward (forwardOf row len place m sign syllable sets) (λ q. nthOf row len q k m sign syllable sets)

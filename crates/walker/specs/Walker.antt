@@ -4,7 +4,7 @@ use Prim.Native.Nat.{ℕ, zero, suc}
 use mathlib.Core.List.{List}
 use denote.Ref.{RefT}
 use Rattle.verdict.specs.declared.Matcher.{Matcher}
-use Rattle.verdict.specs.declared.Sign.{Sign}
+use Rattle.verdict.specs.Verdict.{Asked}
 use Rattle.walk.specs.declared.Walked.{Walked}
 use Rattle.walk.specs.declared.Walked.the-variants.{Found, Stopped, RanOut, Refused}
 use Rattle.walk.specs.Calls.{forwardOf}
@@ -29,7 +29,7 @@ onward (RanOut extent) rest = RanOut extent
 onward Refused rest = Refused
 
 -- the match after n others, or the answer of the first step that finds none
-unfoldable pub nthOf : List ℕ → ℕ → ℕ → ℕ → Matcher → Sign → ℕ → List ℕ → Walked
+unfoldable pub nthOf : List ℕ → ℕ → ℕ → ℕ → Matcher → Asked → ℕ → List ℕ → Walked
 nthOf row len place zero m sign syllable sets = forwardOf row len place m sign syllable sets
 nthOf row len place (suc n) m sign syllable sets =
     onward (forwardOf row len place m sign syllable sets) (λ q. nthOf row len q n m sign syllable sets)

@@ -4,6 +4,8 @@ use verdict::Matcher;
 use verdict::Sign;
 use walk::Walked;
 ghost use mathlib.Core.Path.{_≡_};
+ghost use mathlib.Core.List.{[]};
+ghost use Rattle.verdict.specs.Verdict.{valueOf};
 ghost use Rattle.walk.specs.Calls.{forwardOf, backwardOf};
 ghost use Rattle.walker.specs.Walker.{standing, placeAfter, nthOf};
 
@@ -35,14 +37,14 @@ pub fn next<'a>(
     syllable: u8,
     sets: &[u16],
 ) -> Walked
-    ensures { λ r. ⌜ r ≡ forwardOf (now (w .entry .row)) len (w .entry .place) m sign syllable (now (sets .entry)) ⌝ }
+    ensures { λ r. ⌜ r ≡ forwardOf (now (w .entry .row)) len (w .entry .place) m (valueOf sign []) syllable (now (sets .entry)) ⌝ }
 {
     walk::forward(w.row, len, w.place, m, sign, syllable, sets)
 }
 
 // Backward from where the walker stands.
 pub fn prev<'a>(w: Walker<'a>, m: Matcher, sign: Sign, syllable: u8, sets: &[u16]) -> Walked
-    ensures { λ r. ⌜ r ≡ backwardOf (now (w .entry .row)) (w .entry .place) m sign syllable (now (sets .entry)) ⌝ }
+    ensures { λ r. ⌜ r ≡ backwardOf (now (w .entry .row)) (w .entry .place) m (valueOf sign []) syllable (now (sets .entry)) ⌝ }
 {
     walk::backward(w.row, w.place, m, sign, syllable, sets)
 }
@@ -78,7 +80,7 @@ pub fn step(
     syllable: u8,
     sets: &[u16],
 ) -> Walked
-    ensures { λ r. ⌜ r ≡ forwardOf (now (row .entry)) len place m sign syllable (now (sets .entry)) ⌝ }
+    ensures { λ r. ⌜ r ≡ forwardOf (now (row .entry)) len place m (valueOf sign []) syllable (now (sets .entry)) ⌝ }
 {
     next(new(row, place), len, m, sign, syllable, sets)
 }
@@ -94,7 +96,7 @@ pub fn nth(
     syllable: u8,
     sets: &[u16],
 ) -> Walked
-    ensures { λ r. ⌜ r ≡ nthOf (now (row .entry)) len place n m sign syllable (now (sets .entry)) ⌝ }
+    ensures { λ r. ⌜ r ≡ nthOf (now (row .entry)) len place n m (valueOf sign []) syllable (now (sets .entry)) ⌝ }
 {
     let mut at = place;
     let mut left = n;

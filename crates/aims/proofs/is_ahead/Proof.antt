@@ -1,12 +1,13 @@
 -- No values are always there; else the slots that the matcher is handed are the values. Assumes nothing.
 use Rattle.glyph.specs.Glyph.{glyphsOf}
+use Rattle.verdict.specs.Verdict.{valueBy}
 use Rattle.aims.specs.Laws.{ahead-told, no-ahead}
 use borrow.Author.Needs.{needs}
 use Rattle.aims.proofs.is_ahead.Statement.{statement}
 use Rattle.aims.proofs.is_ahead.Tie as tie
 
 returns : tie.Need-returns
-returns c = let a = c .before .before .before .before .args in no-ahead (a .q) (a .sets .now) (glyphsOf (a .coming .now)) (a .start) (a .syllable) (a .values .now) (c .if1 .taken)
+returns c = let a = c .before .before .before .before .before .args in no-ahead (a .q) (a .sets .now) (valueBy (a .test) (a .lists .now)) (glyphsOf (a .coming .now)) (a .start) (a .syllable) (a .values .now) (c .if1 .taken)
 
 widen-requires : tie.Need-widen-requires
 widen-requires c κs = search needs
@@ -27,7 +28,7 @@ is-found-requires : tie.Need-is-found-requires
 is-found-requires c κs = search needs
 
 returns-2 : tie.Need-returns-2
-returns-2 c = let a = c .before .before .before .before .before .before .before .before .before .args in ahead-told (a .q) (a .sets .now) (glyphsOf (a .coming .now)) (a .values .now) (c .before .before .before .before .widen .result) (c .before .before .before .before .widen .ensures) (a .start) (a .syllable) (c .before .lookahead .result) (c .is-found .result) (c .before .lookahead .ensures) (c .is-found .ensures)
+returns-2 c = let a = c .before .before .before .before .before .before .before .before .before .before .args in ahead-told (a .q) (a .sets .now) (valueBy (a .test) (a .lists .now)) (glyphsOf (a .coming .now)) (a .values .now) (c .before .before .before .before .widen .result) (c .before .before .before .before .widen .ensures) (a .start) (a .syllable) (c .before .lookahead .result) (c .is-found .result) (c .before .lookahead .ensures) (c .is-found .ensures)
 
 pub is-ahead-spec : {M : Type 1} → statement M
 is-ahead-spec =

@@ -1,5 +1,6 @@
 -- The slots that the matcher is handed are the values. Assumes nothing.
 use Rattle.glyph.specs.Glyph.{glyphsOf}
+use Rattle.verdict.specs.Verdict.{valueBy}
 use Rattle.aims.specs.Laws.{input-told}
 use borrow.Author.Needs.{needs}
 use Rattle.aims.proofs.match_values.Statement.{statement}
@@ -21,7 +22,7 @@ input-requires : tie.Need-input-requires
 input-requires c κs = search needs
 
 returns : tie.Need-returns
-returns c = let a = c .before .before .before .before .before .before .before .before .args in input-told (a .q) (a .sets .now) (glyphsOf (a .coming .now)) (a .values .now) (c .before .before .before .widen .result) (c .before .before .before .widen .ensures) (glyphsOf (a .before .now)) (a .idx) (c .input .result) (c .input .ensures)
+returns c = let a = c .before .before .before .before .before .before .before .before .before .args in input-told (a .q) (a .sets .now) (valueBy (a .test) (a .lists .now)) (glyphsOf (a .coming .now)) (a .values .now) (c .before .before .before .widen .result) (c .before .before .before .widen .ensures) (glyphsOf (a .before .now)) (a .idx) (c .input .result) (c .input .ensures)
 
 pub match-values-spec : {M : Type 1} → statement M
 match-values-spec =

@@ -46,18 +46,21 @@ module _ (c : tie.After-first) where
 read-requires : tie.Need-read-requires
 read-requires c κs = let g = good (c .before .before .before) in omega (arith, whole (c .before), g .0 .cursor)
 
+slice-aggregate-backtrack : tie.Need-slice-aggregate-backtrack
+slice-aggregate-backtrack c = search needs
+
 backtrack-requires : tie.Need-backtrack-requires
 backtrack-requires c κs = search needs
 
 returns-2 : tie.Need-returns-2
 unfolding backOf
 returns-2 c =
-    let a = c .before .before .before .before .before .before .before .before .before .before .before .before .args in
-    let g = good (c .before .before .before .before .before) in
+    let a = c .before .before .before .before .before .before .before .before .before .before .before .before .before .args in
+    let g = good (c .before .before .before .before .before .before) in
     let there = le-ltb (length (glyphsOf (a .done .now))) (a .d) (g .0 .before) in
-    let here : a .idx ≤ length (glyphsOf (c .before .before .before .first .result .now)) = omega (arith, whole (c .before .before .before), g .0 .cursor) in
-    let row = rw (there, le-ltb (length (glyphsOf (c .before .before .before .first .result .now))) (a .idx) here) at (c .before .before .backward-row .ensures) in
-    rw (← c .before .before .before .before .before .before .before .back-fit .ensures, c .before .before .before .before .before .enum-told .given .1, ← c .before .before .before .first .ensures, ← row, ← c .before .read .ensures) (c .backtrack .ensures)
+    let here : a .idx ≤ length (glyphsOf (c .before .before .before .before .first .result .now)) = omega (arith, whole (c .before .before .before .before), g .0 .cursor) in
+    let row = rw (there, le-ltb (length (glyphsOf (c .before .before .before .before .first .result .now))) (a .idx) here) at (c .before .before .before .backward-row .ensures) in
+    rw (← c .before .before .before .before .before .before .before .before .back-fit .ensures, c .before .before .before .before .before .before .enum-told .given .1, ← c .before .before .before .before .first .ensures, ← row, ← c .before .before .read .ensures) (c .backtrack .ensures)
 
 pub match-backtrack-spec : {M : Type 1} → statement M
 match-backtrack-spec =
@@ -70,5 +73,5 @@ match-backtrack-spec =
     first-requires
     backward-row-requires
     read-requires
-    backtrack-requires
+    slice-aggregate-backtrack backtrack-requires
     returns-2)

@@ -48,9 +48,12 @@ matcher-of-requires c κs = search needs
 searched-row-requires : tie.Need-searched-row-requires
 searched-row-requires c κs = search needs
 
+slice-aggregate-take-input : tie.Need-slice-aggregate-take-input
+slice-aggregate-take-input c = search needs
+
 take-input-requires : tie.Need-take-input-requires
 take-input-requires c κs =
-    let f = c .before .before .before .before in
+    let f = c .before .before .before .before .before in
     let s = f .before .before .before .before .before .before .before .before .before in
     let g = good (f .before .before) in
     let gs = glyphsOf (s .args .coming .now) in
@@ -58,20 +61,20 @@ take-input-requires c κs =
     ((omega (arith, whole, g .0 .cursor), omega (arith, whole, g .0 .within, g .0 .short), g .1), refl)
 
 count-of-requires : tie.Need-count-of-requires
-count-of-requires c κs = good (c .before .before .before .before .before .before .before) .1
+count-of-requires c κs = good (c .before .before .before .before .before .before .before .before) .1
 
 returns-2 : tie.Need-returns-2
 unfolding inputOf inputOn
 returns-2 c =
-    let f = c .before .before .before .before .before .before in
+    let f = c .before .before .before .before .before .before .before in
     rw (
       c .count-of .ensures,
       ← f .before .before .before .before .input-fit .ensures,
       f .before .before .enum-told .given .1,
       ← f .first2 .ensures,
       ← f .before .first .ensures,
-      ← c .before .before .before .before .matcher-of .ensures,
-      ← c .before .before .before .searched-row .ensures,
+      ← c .before .before .before .before .before .matcher-of .ensures,
+      ← c .before .before .before .before .searched-row .ensures,
     )
     (c .before .take-input .ensures)
 
@@ -88,6 +91,6 @@ match-input-spec =
     first-requires-2
     matcher-of-requires
     searched-row-requires
-    take-input-requires
+    slice-aggregate-take-input take-input-requires
     count-of-requires
     returns-2)

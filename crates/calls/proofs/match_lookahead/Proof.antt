@@ -44,12 +44,15 @@ module _ (c : tie.After-first) where
 read-requires : tie.Need-read-requires
 read-requires c κs = let g = good (c .before) in omega (arith, whole c, g .0 .cursor)
 
+slice-aggregate-lookahead : tie.Need-slice-aggregate-lookahead
+slice-aggregate-lookahead c = search needs
+
 lookahead-requires : tie.Need-lookahead-requires
-lookahead-requires c κs = let g = good (c .before .before) in omega (arith, whole (c .before), g .1)
+lookahead-requires c κs = let g = good (c .before .before .before) in omega (arith, whole (c .before .before), g .1)
 
 returns-2 : tie.Need-returns-2
 unfolding aheadOf
-returns-2 c = rw (← c .before .before .before .before .before .ahead-fit .ensures, c .before .before .before .enum-told .given .1, ← c .before .before .first .ensures, ← c .before .read .ensures) (c .lookahead .ensures)
+returns-2 c = rw (← c .before .before .before .before .before .before .ahead-fit .ensures, c .before .before .before .before .enum-told .given .1, ← c .before .before .before .first .ensures, ← c .before .before .read .ensures) (c .lookahead .ensures)
 
 pub match-lookahead-spec : {M : Type 1} → statement M
 match-lookahead-spec =
@@ -61,5 +64,5 @@ match-lookahead-spec =
     enum-told
     first-requires
     read-requires
-    lookahead-requires
+    slice-aggregate-lookahead lookahead-requires
     returns-2)

@@ -1,6 +1,6 @@
 -- The answer from the row's end with all values is the answer from `place` with the values left: what is between was taken or passed over.
 -- Each turn tests the place before. Assumes nothing.
-use Prim.Native.Nat.{ℕ, _+_, _-_, _^_, _≤_, _<_}
+use Prim.Native.Nat.{ℕ, _+_, _-_, _*_, _^_, _≤_, _<_}
 use mathlib.Core.Path.{_≡_, sym, ap, _∙_}
 use mathlib.Core.List.{List}
 use native.Mathlib.Omega.{arith}
@@ -10,7 +10,7 @@ use lib.ListN.{length, drop, getD}
 use Rattle.glyph.specs.declared.Glyph.{Glyph}
 use Rattle.glyph.specs.Glyph.{glyphsOf}
 use Rattle.verdict.specs.declared.Matcher.{Matcher}
-use Rattle.verdict.specs.declared.Sign.{Sign}
+use Rattle.verdict.specs.Verdict.{Asked, valueBy}
 use Rattle.verdict.specs.declared.Verdict.{Verdict}
 use Rattle.verdict.specs.declared.Verdict.the-variants.{Match, NotMatch, Skip}
 use Rattle.verdict.specs.Laws.{judged-yes, judged-rest}
@@ -23,13 +23,13 @@ use Rattle.contexts.proofs.backtrack.Statement.{statement}
 use Rattle.contexts.proofs.backtrack.Tie as tie
 
 abbrev Inv-loop : tie.InvT-loop
-Inv-loop row syllable sets test values m place₀ i₀ place i =
+Inv-loop row syllable sets test lists values m place₀ i₀ place i =
     (place ≤ length (glyphsOf row))
-    × (told behind (judge m sets test syllable (glyphsOf row)) (length (glyphsOf row)) values
-    ≡ told behind (judge m sets test syllable (glyphsOf row)) place (drop i values))
+    × (told behind (judge m sets (valueBy test lists) syllable (glyphsOf row)) (length (glyphsOf row)) values
+    ≡ told behind (judge m sets (valueBy test lists) syllable (glyphsOf row)) place (drop i values))
 
 abbrev μ-loop : tie.MeasureT-loop
-μ-loop row syllable sets test values m place₀ i₀ place i = place
+μ-loop row syllable sets test lists values m place₀ i₀ place i = place
 
 matcher-of-requires : tie.Need-matcher-of-requires Inv-loop μ-loop
 matcher-of-requires c κs = search needs
@@ -43,12 +43,12 @@ loop-holds c = (omega (arith, c .count .ensures), rw (c .count .ensures))
 returns : tie.Need-returns Inv-loop μ-loop
 unfolding backOn
 returns c =
-    let a = c .before .before .before .before .before .before .before .before .args in
+    let a = c .before .before .before .before .before .before .before .before .before .args in
     let l = c .before .before .loop in
     let m = c .before .before .before .before .matcher-of in
     rw (← m .ensures)
     (sym (l .inv .1
-    ∙ back-out (judge (m .result) (a .sets .now) (a .test) (a .syllable) (glyphsOf (a .row .now))) (l .i) (a .values .now) (omega arith) (l .place) (omega arith)))
+    ∙ back-out (judge (m .result) (a .sets .now) (valueBy (a .test) (a .lists .now)) (a .syllable) (glyphsOf (a .row .now))) (l .i) (a .values .now) (omega arith) (l .place) (omega arith)))
 
 sub-place : tie.Need-sub-place Inv-loop μ-loop
 sub-place c = search needs
@@ -59,13 +59,13 @@ read-requires c κs = search needs
 is-skip-yes-requires : tie.Need-is-skip-yes-requires Inv-loop μ-loop
 is-skip-yes-requires c κs = search needs
 
-few : (s : tie.Start Inv-loop μ-loop) → length (s .args .values .now) < 2 ^ 64
+few : (s : tie.Start Inv-loop μ-loop) → length (s .args .values .now) * 4 < 2 ^ 64
 few s = omega arith
 
 -- what was read
 module _ (c : tie.After-is-skip-yes Inv-loop μ-loop) where
   abbrev start : tie.Start Inv-loop μ-loop
-  start = c .before .before .before .before .before .before .before .before .before .before
+  start = c .before .before .before .before .before .before .before .before .before .before .before
 
   abbrev gs : List Glyph
   gs = glyphsOf (start .args .row .now)
@@ -83,10 +83,10 @@ module _ (c : tie.After-is-skip-yes Inv-loop μ-loop) where
   matcher = c .before .before .before .before .before .before .matcher-of .result
 
   abbrev on : ℕ → ℕ → Verdict
-  on = let a = start .args in judge matcher (a .sets .now) (a .test) (a .syllable) gs
+  on = let a = start .args in judge matcher (a .sets .now) (valueBy (a .test) (a .lists .now)) (a .syllable) gs
 
-  abbrev sign : Sign
-  sign = record { test = start .args .test; value = getD (start .args .values .now) i 0 }
+  abbrev sign : Asked
+  sign = let a = start .args in valueBy (a .test) (a .lists .now) (getD (a .values .now) i 0)
 
   abbrev judged : Verdict
   judged = on (getD (start .args .values .now) i 0) at
@@ -105,7 +105,7 @@ module _ (c : tie.After-is-skip-yes Inv-loop μ-loop) where
       ∙ back-skip on i (start .args .values .now) (omega arith) place at (omega arith) t
 
 mul-value : tie.Need-mul-value Inv-loop μ-loop
-mul-value c = search needs
+mul-value c = let d = c .before in omega (arith, few (start d), d .before .before .before .loop-test .taken)
 
 shared-slice-read-value : tie.Need-shared-slice-read-value Inv-loop μ-loop
 shared-slice-read-value c = search needs
@@ -171,11 +171,11 @@ loop-again-3 c = let d = c .before in
 returns-3 : tie.Need-returns-3 Inv-loop μ-loop
 unfolding backOn
 returns-3 c =
-    let a = c .before .before .before .before .before .before .before .args in
+    let a = c .before .before .before .before .before .before .before .before .args in
     let l = c .before .loop in
     let m = c .before .before .before .matcher-of in
     rw (← m .ensures)
-    (sym (l .inv .1 ∙ told-end behind (judge (m .result) (a .sets .now) (a .test) (a .syllable) (glyphsOf (a .row .now))) (l .place) (l .i) (a .values .now) (omega arith)))
+    (sym (l .inv .1 ∙ told-end behind (judge (m .result) (a .sets .now) (valueBy (a .test) (a .lists .now)) (a .syllable) (glyphsOf (a .row .now))) (l .place) (l .i) (a .values .now) (omega arith)))
 
 pub backtrack-spec : {M : Type 1} → statement M
 backtrack-spec =

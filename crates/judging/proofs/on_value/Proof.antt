@@ -1,5 +1,5 @@
 -- By the cases of the test. Assumes nothing.
-use Rattle.verdict.specs.Verdict.{valueOf}
+use Rattle.verdict.specs.Verdict.{valueBy}
 use borrow.Author.Needs.{needs}
 use Rattle.judging.proofs.on_value.Statement.{statement}
 use Rattle.judging.proofs.on_value.Tie as tie
@@ -17,15 +17,15 @@ enum-told-3 : tie.Need-enum-told-3
 enum-told-3 c = search needs
 
 returns : tie.Need-returns
-unfolding valueOf
+unfolding valueBy
 returns c = rw (c .before .before .before .enum-told .given .1) (c .yes-if .ensures)
 
 returns-2 : tie.Need-returns-2
-unfolding valueOf
+unfolding valueBy
 returns-2 c = rw (c .enum-told2 .given .1)
 
 returns-3 : tie.Need-returns-3
-unfolding valueOf
+unfolding valueBy
 returns-3 c = rw (c .enum-told3 .given .1)
 
 pub on-value-spec : {M : Type 1} → statement M

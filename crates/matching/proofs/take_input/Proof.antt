@@ -11,10 +11,9 @@ use lib.ListN.{length, getD, drop, set}
 use Rattle.glyph.specs.declared.Glyph.{Glyph}
 use Rattle.glyph.specs.Glyph.{limit, glyphsOf, blank}
 use Rattle.glyph.specs.Laws.{length-glyphsOf}
-use Rattle.verdict.specs.declared.Sign.{Sign}
 use Rattle.verdict.specs.declared.Verdict.{Verdict}
 use Rattle.verdict.specs.declared.Verdict.the-variants.{Match, NotMatch, Skip}
-use Rattle.verdict.specs.Verdict.{judgeAt}
+use Rattle.verdict.specs.Verdict.{Asked, valueBy, judgeAt}
 use Rattle.verdict.specs.Laws.{judged-yes, judged-rest}
 use Rattle.walk.specs.declared.Walked.{Walked}
 use Rattle.walk.specs.declared.Walked.the-variants.{Found, Stopped, RanOut}
@@ -33,23 +32,23 @@ use Rattle.matching.proofs.take_input.Tie as tie
 use Rattle.ligature.specs.Search.{baseNeeded, maySkip}
 
 abbrev Inv-loop : tie.InvT-loop
-Inv-loop searched text idx m sets test values positions₀ len first total₀ base₀ next₀ i₀ positions total base next i =
-    Going (glyphsOf text) (judge m sets test (getD (glyphsOf text) idx blank .syllable) (glyphsOf text))
+Inv-loop searched text idx m sets test lists values positions₀ len first total₀ base₀ next₀ i₀ positions total base next i =
+    Going (glyphsOf text) (judge m sets (valueBy test lists) (getD (glyphsOf text) idx blank .syllable) (glyphsOf text))
     (joins m sets (glyphsOf searched) (glyphsOf text) idx) idx values positions total next i
     × Known base (baseSkips m sets (first .lig) (glyphsOf searched))
 
 abbrev μ-loop : tie.MeasureT-loop
-μ-loop searched text idx m sets test values positions₀ len first total₀ base₀ next₀ i₀ positions total base next i = len - next
+μ-loop searched text idx m sets test lists values positions₀ len first total₀ base₀ next₀ i₀ positions total base next i = len - next
 
 count-requires : tie.Need-count-requires Inv-loop μ-loop
 count-requires c κs = search needs
 
 read-requires : tie.Need-read-requires Inv-loop μ-loop
-read-requires c κs = c .before .before .before .before .before .pre .0 .0
+read-requires c κs = c .before .before .before .before .before .before .pre .0 .0
 
 cast-positions : tie.Need-cast-positions Inv-loop μ-loop
 unfolding limit
-cast-positions c = let s = c .before .before .before .before .before .before in omega (arith, s .pre .0 .0, s .pre .0 .1)
+cast-positions c = let s = c .before .before .before .before .before .before .before in omega (arith, s .pre .0 .0, s .pre .0 .1)
 
 element-write-positions : tie.Need-element-write-positions Inv-loop μ-loop
 element-write-positions c = search needs
@@ -59,15 +58,15 @@ cast-total c = search needs
 
 add-next : tie.Need-add-next Inv-loop μ-loop
 add-next c =
-    let s = c .before .before .before .before .before .before .before in
+    let s = c .before .before .before .before .before .before .before .before in
     omega (arith, s .pre .0 .0, length-glyphsOf (s .args .text .now))
 
 loop-holds : tie.Need-loop-holds Inv-loop μ-loop
 loop-holds c =
-    let s = c .before .before .before .before .before .before .before in
+    let s = c .before .before .before .before .before .before .before .before in
     let a = s .args in
     let gs = glyphsOf (a .text .now) in
-    let on : ℕ → ℕ → Verdict = judge (a .m) (a .sets .now) (a .test) (getD gs (a .idx) blank .syllable) gs in
+    let on : ℕ → ℕ → Verdict = judge (a .m) (a .sets .now) (valueBy (a .test) (a .lists .now)) (getD gs (a .idx) blank .syllable) gs in
     let ok = joins (a .m) (a .sets .now) (glyphsOf (a .searched .now)) gs (a .idx) in
     let small : c .before .read .result .count ≤ 255 = omega (arith, c .struct-known .given) in
     let told = c .before .read .ensures in (
@@ -80,7 +79,7 @@ loop-holds c =
 -- at a turn
 module _ (c : tie.In-loop Inv-loop μ-loop) where
   abbrev start : tie.Start Inv-loop μ-loop
-  start = c .before .before .before .before .before .before .before .before .before
+  start = c .before .before .before .before .before .before .before .before .before .before
 
   abbrev first : Glyph
   first = c .before .before .before .read .result
@@ -101,7 +100,7 @@ module _ (c : tie.In-loop Inv-loop μ-loop) where
   next = c .before .loop .next
 
   abbrev on : ℕ → ℕ → Verdict
-  on = let a = start .args in judge (a .m) (a .sets .now) (a .test) (getD gs idx blank .syllable) gs
+  on = let a = start .args in judge (a .m) (a .sets .now) (valueBy (a .test) (a .lists .now)) (getD gs idx blank .syllable) gs
 
   abbrev ok : ℕ → Bool
   ok = let a = start .args in joins (a .m) (a .sets .now) (glyphsOf (a .searched .now)) gs idx
@@ -152,8 +151,8 @@ module _ (c : tie.After-is-skip-yes Inv-loop μ-loop) where
   abbrev this : Glyph
   this = c .before .read2 .result
 
-  abbrev sign : Sign
-  sign = record { test = start round .args .test; value = getD (values round) (i round) 0 }
+  abbrev sign : Asked
+  sign = let a = start round .args in valueBy (a .test) (a .lists .now) (getD (values round) (i round) 0)
 
   abbrev judged : Verdict
   judged = on round (getD (values round) (i round) 0) (next round)
@@ -342,13 +341,13 @@ loop-again-3 c =
 returns-4 : tie.Need-returns-4 Inv-loop μ-loop
 unfolding inputBy
 returns-4 c =
-    let s = c .before .before .before .before .before .before .before .before .before in
+    let s = c .before .before .before .before .before .before .before .before .before .before in
     let a = s .args in
     let l = c .before .loop in
     let gs = glyphsOf (a .text .now) in
     let n : length (a .values .now) + 1 ≡ l .i + 1 = omega (arith, l .inv .0 .within, c .loop-test .left) in
     (λ j. record { answer = InputAnswer.Matched (l .next) (l .total); count = n j; positions = l .positions })
-    ∙ sym (going-done gs (judge (a .m) (a .sets .now) (a .test) (getD gs (a .idx) blank .syllable) gs) (joins (a .m) (a .sets .now) (glyphsOf (a .searched .now)) gs (a .idx))
+    ∙ sym (going-done gs (judge (a .m) (a .sets .now) (valueBy (a .test) (a .lists .now)) (getD gs (a .idx) blank .syllable) gs) (joins (a .m) (a .sets .now) (glyphsOf (a .searched .now)) gs (a .idx))
     (a .idx) (a .values .now) (l .positions) (l .total) (l .next) (l .i) (l .inv .0) (omega arith))
 
 pub take-input-spec : {M : Type 1} → statement M

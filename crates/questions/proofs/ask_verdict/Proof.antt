@@ -19,12 +19,15 @@ read-requires : tie.Need-read-requires
 read-requires c κs = let a = c .before .before .before .before .args in
     good-place (a .row .now) (a .place) (neither-left _ _ (sym (c .before .is-refused .ensures) ∙ c .if1 .left))
 
+slice-aggregate-judge : tie.Need-slice-aggregate-judge
+slice-aggregate-judge c = search needs
+
 judge-requires : tie.Need-judge-requires
 judge-requires c κs = search needs
 
 returns-2 : tie.Need-returns-2
 unfolding askVerdict
-returns-2 c = rw (← c .before .before .before .is-refused .ensures, c .before .before .if1 .left, ← c .before .read .ensures) (ap VerdictAnswer.Said (c .judge .ensures))
+returns-2 c = rw (← c .before .before .before .before .is-refused .ensures, c .before .before .before .if1 .left, ← c .before .before .read .ensures) (ap VerdictAnswer.Said (c .judge .ensures))
 
 pub ask-verdict-spec : {M : Type 1} → statement M
-ask-verdict-spec = tie.close (tie.spec is-refused-requires returns read-requires judge-requires returns-2)
+ask-verdict-spec = tie.close (tie.spec is-refused-requires returns read-requires slice-aggregate-judge judge-requires returns-2)

@@ -10,7 +10,7 @@ use lib.ListN.{getD}
 use Rattle.glyph.specs.Glyph.{glyphsOf, blank}
 use Rattle.verdict.specs.declared.Verdict.{Verdict}
 use Rattle.verdict.specs.declared.Verdict.the-variants.{Skip}
-use Rattle.verdict.specs.Verdict.{skipYes, restOf, judgeAt}
+use Rattle.verdict.specs.Verdict.{valueOf, skipYes, restOf, judgeAt}
 use Rattle.verdict.specs.Laws.{judged-yes, judged-rest}
 use Rattle.walk.specs.declared.Walked.the-variants.{Stopped, RanOut}
 use Rattle.walk.specs.Walk.{afterBack, walkBack}
@@ -19,25 +19,25 @@ use Rattle.walk.proofs.backward_from.Statement.{statement}
 use Rattle.walk.proofs.backward_from.Tie as tie
 
 abbrev Inv-loop : tie.InvT-loop
-Inv-loop row place m sign syllable sets p₀ p =
-    (p < place) × (walkBack (judgeAt m sign syllable sets (glyphsOf row)) place ≡ walkBack (judgeAt m sign syllable sets (glyphsOf row)) (p + 1))
+Inv-loop row place m sign lists syllable sets p₀ p =
+    (p < place) × (walkBack (judgeAt m (valueOf sign lists) syllable sets (glyphsOf row)) place ≡ walkBack (judgeAt m (valueOf sign lists) syllable sets (glyphsOf row)) (p + 1))
 
 abbrev μ-loop : tie.MeasureT-loop
-μ-loop row place m sign syllable sets p₀ p = p
+μ-loop row place m sign lists syllable sets p₀ p = p
 
 back-extent-requires : tie.Need-back-extent-requires Inv-loop μ-loop
 back-extent-requires c κs = search needs
 
 returns : tie.Need-returns Inv-loop μ-loop
 returns c =
-    let a = c .before .before .before .before .args in
-    let v = judgeAt (a .m) (a .sign) (a .syllable) (a .sets .now) (glyphsOf (a .row .now)) in
+    let a = c .before .before .before .before .before .args in
+    let v = judgeAt (a .m) (valueOf (a .sign) (a .lists .now)) (a .syllable) (a .sets .now) (glyphsOf (a .row .now)) in
     ap RanOut (c .before .back-extent .ensures ∙ ap (λ n. max n 1 - 1) (c .if1 .taken)) ∙ sym (back-end v (a .place) (c .if1 .taken))
 
 loop-holds : tie.Need-loop-holds Inv-loop μ-loop
 loop-holds c =
-    let a = c .before .before .before .before .args in
-    let v = judgeAt (a .m) (a .sign) (a .syllable) (a .sets .now) (glyphsOf (a .row .now)) in
+    let a = c .before .before .before .before .before .args in
+    let v = judgeAt (a .m) (valueOf (a .sign) (a .lists .now)) (a .syllable) (a .sets .now) (glyphsOf (a .row .now)) in
     let s : a .place ≡ c .before .back-extent .result + 1 = omega (arith, c .before .back-extent .ensures) in
     (omega (arith, s), ap (walkBack v) s)
 
@@ -56,25 +56,25 @@ on-rest-requires c κs = search needs
 module _ (c : tie.After-is-skip-yes Inv-loop μ-loop) where
   abbrev judge : ℕ → Verdict
   judge =
-      let a = c .before .before .before .before .before .before .before .args in
-      judgeAt (a .m) (a .sign) (a .syllable) (a .sets .now) (glyphsOf (a .row .now))
+      let a = c .before .before .before .before .before .before .before .before .args in
+      judgeAt (a .m) (valueOf (a .sign) (a .lists .now)) (a .syllable) (a .sets .now) (glyphsOf (a .row .now))
 
   abbrev tested : ℕ
   tested = c .before .before .loop .p
 
   -- a turn whose verdict is r
   turn : (r : Verdict) → judge tested ≡ r
-      → walkBack judge (c .before .before .before .before .before .before .before .args .place) ≡ afterBack r tested (walkBack judge tested)
+      → walkBack judge (c .before .before .before .before .before .before .before .before .args .place) ≡ afterBack r tested (walkBack judge tested)
   turn r e =
       let l = c .before .before .loop in
       l .inv .1 ∙ back-on-by judge (l .p + 1) tested (omega arith) r e
 
   -- what was asked of the glyph that was read
   asked : c .is-skip-yes .result
-      ≡ skipYes (c .before .before .before .before .before .before .before .args .m) (c .before .before .before .before .before .before .before .args .sets .now)
-      (getD (glyphsOf (c .before .before .before .before .before .before .before .args .row .now)) tested blank)
+      ≡ skipYes (c .before .before .before .before .before .before .before .before .args .m) (c .before .before .before .before .before .before .before .before .args .sets .now)
+      (getD (glyphsOf (c .before .before .before .before .before .before .before .before .args .row .now)) tested blank)
   asked =
-      let a = c .before .before .before .before .before .before .before .args in
+      let a = c .before .before .before .before .before .before .before .before .args in
       c .is-skip-yes .ensures ∙ ap (skipYes (a .m) (a .sets .now)) (c .before .read .ensures)
 
 -- what the rest says is the verdict
@@ -82,12 +82,12 @@ module _ (c : tie.After-on-rest Inv-loop μ-loop) where
   told : (r : Verdict) → c .on-rest .result ≡ r → judge (c .before .before .before) (tested (c .before .before .before)) ≡ r
   told r e =
       let d = c .before .before .before in
-      let a = d .before .before .before .before .before .before .before .args in
+      let a = d .before .before .before .before .before .before .before .before .args in
       let gs = glyphsOf (a .row .now) in
-      judged-rest (a .m) (a .sign) (a .syllable) (a .sets .now) gs (tested d) (getD gs (tested d) blank)
+      judged-rest (a .m) (valueOf (a .sign) (a .lists .now)) (a .syllable) (a .sets .now) gs (tested d) (getD gs (tested d) blank)
       (d .is-skip-yes .result) (c .on-rest .result) refl (asked d)
       (not-true (d .is-skip-yes .result) (c .before .before .if2 .taken))
-      (c .on-rest .ensures ∙ ap (restOf (a .m) (a .sign) (a .syllable)) (c .before .read2 .ensures))
+      (c .on-rest .ensures ∙ ap (restOf (a .m) (valueOf (a .sign) (a .lists .now)) (a .syllable)) (c .before .read2 .ensures))
       ∙ e
 
 enum-told : tie.Need-enum-told Inv-loop μ-loop
@@ -119,13 +119,13 @@ module _ (c : tie.Joined2 Inv-loop μ-loop) where
       ⊎-elim
       (λ w. told (record { before = record { before = record { before = d; if2 = w .0 }; read2 = w .1 }; on-rest = w .2 }) Skip (w .4 .given .1))
       (λ w.
-      let a = d .before .before .before .before .before .before .before .args in
+      let a = d .before .before .before .before .before .before .before .before .args in
       let gs = glyphsOf (a .row .now) in
-      judged-yes (a .m) (a .sign) (a .syllable) (a .sets .now) gs (tested d) (getD gs (tested d) blank) (d .is-skip-yes .result) refl (asked d)
+      judged-yes (a .m) (valueOf (a .sign) (a .lists .now)) (a .syllable) (a .sets .now) gs (tested d) (getD gs (tested d) blank) (d .is-skip-yes .result) refl (asked d)
       (not-false (d .is-skip-yes .result) (w .left)))
       (c .if2 .came)
 
-  passed : walkBack (judge (c .before)) (c .before .before .before .before .before .before .before .before .args .place)
+  passed : walkBack (judge (c .before)) (c .before .before .before .before .before .before .before .before .before .args .place)
       ≡ walkBack (judge (c .before)) (tested (c .before))
   passed = turn (c .before) Skip skipped
 

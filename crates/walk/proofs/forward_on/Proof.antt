@@ -6,18 +6,18 @@ use native.Mathlib.Omega.{arith}
 use borrow.Author.Needs.{needs}
 use Rattle.glyph.specs.Glyph.{glyphsOf}
 use Rattle.verdict.specs.declared.Verdict.{Verdict}
-use Rattle.verdict.specs.Verdict.{verdict, judgeAt}
+use Rattle.verdict.specs.Verdict.{verdict, valueOf, judgeAt}
 use Rattle.walk.specs.Walk.{after, walkFrom}
 use Rattle.walk.specs.Steps.{walk-on-by, walk-end}
 use Rattle.walk.proofs.forward_on.Statement.{statement}
 use Rattle.walk.proofs.forward_on.Tie as tie
 
 abbrev Inv-loop : tie.InvT-loop
-Inv-loop row len next m sign syllable sets at₀ at =
-    walkFrom (judgeAt m sign syllable sets (glyphsOf row)) len next ≡ walkFrom (judgeAt m sign syllable sets (glyphsOf row)) len at
+Inv-loop row len next m sign lists syllable sets at₀ at =
+    walkFrom (judgeAt m (valueOf sign lists) syllable sets (glyphsOf row)) len next ≡ walkFrom (judgeAt m (valueOf sign lists) syllable sets (glyphsOf row)) len at
 
 abbrev μ-loop : tie.MeasureT-loop
-μ-loop row len next m sign syllable sets at₀ at = len - at
+μ-loop row len next m sign lists syllable sets at₀ at = len - at
 
 loop-holds : tie.Need-loop-holds Inv-loop μ-loop
 loop-holds c = refl
@@ -32,20 +32,20 @@ judge-requires c κs = search needs
 module _ (c : tie.After-judge Inv-loop μ-loop) where
   abbrev judge : ℕ → Verdict
   judge =
-      let a = c .before .before .before .before .before .before .args in
-      judgeAt (a .m) (a .sign) (a .syllable) (a .sets .now) (glyphsOf (a .row .now))
+      let a = c .before .before .before .before .before .before .before .args in
+      judgeAt (a .m) (valueOf (a .sign) (a .lists .now)) (a .syllable) (a .sets .now) (glyphsOf (a .row .now))
 
   abbrev len : ℕ
-  len = c .before .before .before .before .before .before .args .len
+  len = c .before .before .before .before .before .before .before .args .len
 
   abbrev place : ℕ
   place = c .before .before .before .loop .at
 
   turn : (r : Verdict) → c .judge .result ≡ r
-      → walkFrom judge len (c .before .before .before .before .before .before .args .next) ≡ after r place (walkFrom judge len (place + 1))
+      → walkFrom judge len (c .before .before .before .before .before .before .before .args .next) ≡ after r place (walkFrom judge len (place + 1))
   turn r e =
-      let a = c .before .before .before .before .before .before .args in
-      let told = c .judge .ensures ∙ ap (verdict (a .m) (a .sign) (a .syllable) (a .sets .now)) (c .before .read .ensures) in
+      let a = c .before .before .before .before .before .before .before .args in
+      let told = c .judge .ensures ∙ ap (verdict (a .m) (valueOf (a .sign) (a .lists .now)) (a .syllable) (a .sets .now)) (c .before .read .ensures) in
       c .before .before .before .loop .inv ∙ walk-on-by judge len place (omega arith) r (sym told ∙ e)
 
 enum-told : tie.Need-enum-told Inv-loop μ-loop
@@ -57,8 +57,8 @@ returns c = sym (turn (c .before .before) _ (c .enum-told .given .1))
 enum-told-2 : tie.Need-enum-told-2 Inv-loop μ-loop
 enum-told-2 c = search needs
 
-add-t12 : tie.Need-add-t12 Inv-loop μ-loop
-add-t12 c = search needs
+add-t13 : tie.Need-add-t13 Inv-loop μ-loop
+add-t13 c = search needs
 
 returns-2 : tie.Need-returns-2 Inv-loop μ-loop
 returns-2 c = sym (turn (c .before .before) _ (c .enum-told2 .given .1))
@@ -77,8 +77,8 @@ loop-again c = turn (c .before .before) _ (c .enum-told3 .given .1)
 
 returns-3 : tie.Need-returns-3 Inv-loop μ-loop
 returns-3 c =
-    let a = c .before .before .before .before .args in
-    let v = judgeAt (a .m) (a .sign) (a .syllable) (a .sets .now) (glyphsOf (a .row .now)) in
+    let a = c .before .before .before .before .before .args in
+    let v = judgeAt (a .m) (valueOf (a .sign) (a .lists .now)) (a .syllable) (a .sets .now) (glyphsOf (a .row .now)) in
     sym (c .before .loop .inv ∙ walk-end v (a .len) (c .before .loop .at) (omega arith))
 
 pub forward-on-spec : {M : Type 1} → statement M
@@ -93,7 +93,7 @@ forward-on-spec =
     enum-told
     returns
     enum-told-2
-    add-t12
+    add-t13
     returns-2
     enum-told-3
     add-at

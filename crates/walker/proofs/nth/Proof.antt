@@ -5,6 +5,7 @@ use mathlib.Core.Path.{_≡_, refl, sym, ap, _∙_}
 use native.Mathlib.Omega.{arith}
 use borrow.Author.Needs.{needs}
 use mathlib.Core.List.{[], _∷_}
+use Rattle.verdict.specs.Verdict.{valueOf}
 use mathlib.Core.Logic.{⊎-elim}
 use denote.Enum.Declared.{tagOf}
 use types.Run.{OneOf}
@@ -18,7 +19,7 @@ use Rattle.walker.proofs.nth.Tie as tie
 
 abbrev Inv-loop : tie.InvT-loop
 Inv-loop row len place n m sign syllable sets at₀ left₀ at left =
-    nthOf row len place n m sign syllable sets ≡ nthOf row len at left m sign syllable sets
+    nthOf row len place n m (valueOf sign []) syllable sets ≡ nthOf row len at left m (valueOf sign []) syllable sets
 
 abbrev μ-loop : tie.MeasureT-loop
 μ-loop row len place n m sign syllable sets at₀ left₀ at left = left
@@ -35,17 +36,17 @@ module _ (c : tie.After-step Inv-loop μ-loop) where
   abbrev rest : ℕ → Walked
   rest q =
       let a = c .before .before .before .before .before .args in
-      nthOf (a .row .now) (a .len) q (c .before .before .loop .left - 1) (a .m) (a .sign) (a .syllable) (a .sets .now)
+      nthOf (a .row .now) (a .len) q (c .before .before .loop .left - 1) (a .m) (valueOf (a .sign) []) (a .syllable) (a .sets .now)
 
   -- a turn: the whole is what its step answers, and where that is a place, what is answered from there
   turn :
       let a = c .before .before .before .before .before .args in
-      nthOf (a .row .now) (a .len) (a .place) (a .n) (a .m) (a .sign) (a .syllable) (a .sets .now) ≡ onward (c .step .result) rest
+      nthOf (a .row .now) (a .len) (a .place) (a .n) (a .m) (valueOf (a .sign) []) (a .syllable) (a .sets .now) ≡ onward (c .step .result) rest
   turn =
       let a = c .before .before .before .before .before .args in
       let l = c .before .before .loop in
       l .inv
-      ∙ nth-on (a .row .now) (a .len) (l .at) (a .m) (a .sign) (a .syllable) (a .sets .now) (l .left) (l .left - 1) (omega arith)
+      ∙ nth-on (a .row .now) (a .len) (l .at) (a .m) (valueOf (a .sign) []) (a .syllable) (a .sets .now) (l .left) (l .left - 1) (omega arith)
       ∙ ap (λ (r : Walked). onward r rest) (sym (c .step .ensures))
 
 loop-holds : tie.Need-loop-holds Inv-loop μ-loop
@@ -79,7 +80,7 @@ returns-2 c =
     let a = c .before .before .before .before .before .args in
     let l = c .before .before .loop in
     c .step2 .ensures
-    ∙ sym (l .inv ∙ nth-end (a .row .now) (a .len) (l .at) (a .m) (a .sign) (a .syllable) (a .sets .now) (l .left) (omega arith))
+    ∙ sym (l .inv ∙ nth-end (a .row .now) (a .len) (l .at) (a .m) (valueOf (a .sign) []) (a .syllable) (a .sets .now) (l .left) (omega arith))
 
 pub nth-spec : {M : Type 1} → statement M
 nth-spec =

@@ -42,6 +42,7 @@ use Rattle.verdict.proofs.Matcher as Ma
 use Rattle.verdict.proofs.Matcher.Laws as Ma′
 use Rattle.verdict.proofs.Sign as Si
 use Rattle.verdict.proofs.Sign.Laws as Si′
+use Rattle.verdict.specs.Verdict.{valueOf}
 use Rattle.walk.specs.Calls.{forwardOf}
 use Rattle.walk.specs.declared.Walked.{Walked}
 use Rattle.walk.proofs.Walked as R
@@ -93,7 +94,7 @@ module _ {M : Type 1} (𝓤 : URA M) (H : Heap 𝓤) (A : Atoms 𝓤) (W : Given
 
   -- the answer from a row and a place
   abbrev answer : RefT (List ℕ) → ℕ → Walked
-  answer row place = forwardOf (now row) n place (x .0) (x .1 .0) (x .1 .1 .0) (now (x .1 .1 .1 .0))
+  answer row place = forwardOf (now row) n place (x .0) (valueOf (x .1 .0) []) (x .1 .1 .0) (now (x .1 .1 .1 .0))
 
   -- the struct's type as a local of a body has it
   abbrev αᵉ : NamedLft
