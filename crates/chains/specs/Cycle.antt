@@ -23,7 +23,7 @@ use Rattle.runs.specs.Rises.{rises-wider}
 use Rattle.runs.specs.Kept as kept
 use Rattle.runs.specs.Kept.{Kept, Fitting, Fair, Keeps, step-good, lookup-keeps, due-shows}
 use Rattle.runs.specs.Tries.{Adds, step-adds, lookup-adds}
-use Rattle.runs.specs.Chain.{chainMatch}
+use Rattle.runs.specs.Chain.{chainMatch, ruled}
 use Rattle.runs.specs.ChainLaws.{FewValues, chain-fair}
 use Rattle.levels.specs.declared.Slots.{Slots}
 use Rattle.levels.specs.Slots.{levelOf, shown, Neat}
@@ -54,7 +54,7 @@ module _ {ws starts : List ℕ} {count : ℕ} (x : Indexed ws starts count) wher
   few-by (Entry.Many p f i) props first back input onward records g e = let z : _≡_ {A = ℕ} 0 1 = cc in absurd (omega arith)
   few-by Entry.Missing props first back input onward records g e = let z : _≡_ {A = ℕ} 0 1 = cc in absurd (omega arith)
 
-  pub book-fair : (given : Given) (sets : List ℕ) → Fair (chainMatch given sets) (lookupsOf ws)
+  pub book-fair : (given : Given) (sets : List ℕ) → Fair (ruled given sets) (lookupsOf ws)
   book-fair given sets =
       chain-fair given sets (lookupsOf ws)
       (λ k props first back input onward records e. few-by (foundIn ws starts count k) props first back input onward records (entry-good k) (entry-meant k ∙ e))
@@ -63,7 +63,7 @@ module _ {ws starts : List ℕ} {count : ℕ} (x : Indexed ws starts count) wher
 
 module _ (given : Given) (sets ws : List ℕ) (depth : ℕ) (done coming : List ℕ) (s : State) where
   abbrev levelRun : List Record → Stage → Stage
-  levelRun rs v = chainRun (chainMatch given sets) (lookupsOf ws) depth rs v
+  levelRun rs v = chainRun (ruled given sets) (lookupsOf ws) depth rs v
 
   staged : (ps : List ℕ) (end : ℕ) → stageOf done coming s (shown (record { live = true; positions = ps; end = end })) ≡ opened ps end (runOf done coming s)
   staged ps end = let e = level-shown (record { live = true; positions = ps; end = end }) in λ j. record { level = e j; run = runOf done coming s }
@@ -81,14 +81,14 @@ module _ (given : Given) (sets ws : List ℕ) (depth : ℕ) (done coming : List 
   aimed e = aimedAt given sets ws e (textOf done coming (s .place))
 
   hit-by : (e : Entry) → aimed e .hit ≡ true
-      → levelRun (recordsOf (partOf ws (aimed e .records))) (stageOf done coming s (aimed e .level)) .run ≡ appliedBy (chainMatch given sets) levelRun (meant ws e) (runOf done coming s)
+      → levelRun (recordsOf (partOf ws (aimed e .records))) (stageOf done coming s (aimed e .level)) .run ≡ appliedBy (ruled given sets) levelRun (meant ws e) (runOf done coming s)
   hit-by (Entry.Chain props first back input onward records) h =
       hit-match records (chainMatch given sets (Kind3 props first (partOf ws back) (partOf ws input) (partOf ws onward) (recordsOf (partOf ws records))) (textOf done coming (s .place))) h
   hit-by (Entry.One props from to) h = let z : _≡_ {A = ℕ} 0 1 = cc in absurd (omega arith)
   hit-by (Entry.Many props from ids) h = let z : _≡_ {A = ℕ} 0 1 = cc in absurd (omega arith)
   hit-by Entry.Missing h = let z : _≡_ {A = ℕ} 0 1 = cc in absurd (omega arith)
 
-  miss-by : (e : Entry) → aimed e .hit ≡ false → actedBy ws e (runOf done coming s) ≡ appliedBy (chainMatch given sets) levelRun (meant ws e) (runOf done coming s)
+  miss-by : (e : Entry) → aimed e .hit ≡ false → actedBy ws e (runOf done coming s) ≡ appliedBy (ruled given sets) levelRun (meant ws e) (runOf done coming s)
   miss-by (Entry.Chain props first back input onward records) h =
       miss-match records (chainMatch given sets (Kind3 props first (partOf ws back) (partOf ws input) (partOf ws onward) (recordsOf (partOf ws records))) (textOf done coming (s .place))) h
   miss-by (Entry.One props from to) h = refl
@@ -96,15 +96,15 @@ module _ (given : Given) (sets ws : List ℕ) (depth : ℕ) (done coming : List 
   miss-by Entry.Missing h = refl
 
   module _ {starts : List ℕ} {count : ℕ} (x : Indexed ws starts count) (k : ℕ) (e : Entry) (is : e ≡ foundIn ws starts count k) (a : Aim) (a-is : a ≡ aimedAt given sets ws e (textOf done coming (s .place))) where
-    found : appliedBy (chainMatch given sets) levelRun (meant ws e) (runOf done coming s) ≡ lookupRun (chainMatch given sets) (lookupsOf ws) depth k (runOf done coming s)
-    found = ap (λ (f : Found). appliedBy (chainMatch given sets) levelRun f (runOf done coming s)) (ap (meant ws) is ∙ entry-meant x k)
+    found : appliedBy (ruled given sets) levelRun (meant ws e) (runOf done coming s) ≡ lookupRun (ruled given sets) (lookupsOf ws) depth k (runOf done coming s)
+    found = ap (λ (f : Found). appliedBy (ruled given sets) levelRun f (runOf done coming s)) (ap (meant ws) is ∙ entry-meant x k)
 
     pub look-hit : a .hit ≡ true
-        → chainRun (chainMatch given sets) (lookupsOf ws) depth (recordsOf (partOf ws (a .records))) (stageOf done coming s (a .level)) .run
-        ≡ lookupRun (chainMatch given sets) (lookupsOf ws) depth k (runOf done coming s)
+        → chainRun (ruled given sets) (lookupsOf ws) depth (recordsOf (partOf ws (a .records))) (stageOf done coming s (a .level)) .run
+        ≡ lookupRun (ruled given sets) (lookupsOf ws) depth k (runOf done coming s)
     look-hit h = rw a-is (hit-by e (rw a-is at h) ∙ found)
 
-    pub look-miss : a .hit ≡ false → actedBy ws e (runOf done coming s) ≡ lookupRun (chainMatch given sets) (lookupsOf ws) depth k (runOf done coming s)
+    pub look-miss : a .hit ≡ false → actedBy ws e (runOf done coming s) ≡ lookupRun (ruled given sets) (lookupsOf ws) depth k (runOf done coming s)
     look-miss h = miss-by e (rw a-is at h) ∙ found
 
     -- the level that a chain opens is sound
@@ -122,7 +122,7 @@ module _ (given : Given) (sets ws : List ℕ) (depth : ℕ) (done coming : List 
     sound-by (Entry.Chain props first back input onward records) q g h y =
         let l : Lookup = Kind3 props first (partOf ws back) (partOf ws input) (partOf ws onward) (recordsOf (partOf ws records)) in
         let m : Match = chainMatch given sets l (textOf done coming (s .place)) in
-        (sound-match records m y (book-fair x given sets k l (textOf done coming (s .place)) (sym q) h), parts records m y (g .3))
+        (sound-match records m y (book-fair x given sets .matches k l (textOf done coming (s .place)) (sym q) h), parts records m y (g .3))
       where
         parts : (records : Part) (m : Match) → aimAt records m .hit ≡ true → Inside (length ws) 32 records → (aimAt records m .records .from ≤ aimAt records m .records .to) × (aimAt records m .records .to ≤ length ws)
         parts records (Matched ps end) y i = (i .ordered, i .within)

@@ -13,11 +13,12 @@ use Rattle.book.specs.Book.{Record, Lookup, recordsOf, lookupsOf}
 use Rattle.book.specs.Records.{records-step, records-end}
 use Rattle.runs.specs.declared.Given.{Given}
 use Rattle.runs.specs.Repair.{Level, repaired, Sound}
-use Rattle.runs.specs.Run.{Run, Stage, size, changed, when, placeOf, isDue, isOver, arrived, spending, followedBy, triedBy, dueBy, stepBy, recordsBy, closed, chainRun, lookupRun, mostAllowance}
+use Rattle.runs.specs.Run.{Run, Stage, Act, size, changed, when, placeOf, isDue, isOver, arrived, spending, followedBy, triedBy, dueBy, stepBy, recordsBy, closed, acting, mending, chainRun, lookupRun, mostAllowance}
+use Rattle.runs.specs.Rises.{repaired-mends}
 use Rattle.runs.specs.Kept as kept
 use Rattle.runs.specs.Kept.{Kept, Keeps, Due, step-good, lookup-keeps, due-shows, records-good}
 use Rattle.runs.specs.Tries.{Adds, step-adds, lookup-adds}
-use Rattle.runs.specs.Chain.{chainMatch}
+use Rattle.runs.specs.Chain.{ruled}
 use Rattle.levels.specs.declared.Slots.{Slots}
 use Rattle.levels.specs.Slots.{levelOf, shown, Neat}
 use Rattle.levels.specs.Laws.{level-shown, shown-neat, count-is}
@@ -33,21 +34,21 @@ recordAt recs i = record { seq = getD recs i 0; lookup = getD recs (i + 1) 0 }
 
 -- ---- a step, by whether the record's lookup is tried
 
-abbrev tryIt : (ℕ → Run → Run) → Record → Stage → Stage
-tryIt lookup r w = followedBy r w (lookup (r .lookup) (w .run))
+abbrev tryIt : (ℕ → Act) → Record → Stage → Stage
+tryIt acts r w = followedBy (acts (r .lookup) .repair) r w (acts (r .lookup) .does (w .run))
 
-judged-tries : (lookup : ℕ → Run → Run) (depth l : ℕ) (r : Record) (v : Stage) → triedBy lookup depth l r v ≡ when (judged depth l v .go) (tryIt lookup r) (judged depth l v .stage)
+judged-tries : (acts : ℕ → Act) (depth l : ℕ) (r : Record) (v : Stage) → triedBy acts depth l r v ≡ when (judged depth l v .go) (tryIt acts r) (judged depth l v .stage)
 unfolding triedBy judged
-judged-tries lookup depth zero r v = refl
-judged-tries lookup zero (suc l) r v = refl
-judged-tries lookup (suc depth) (suc l) r v = refl
+judged-tries acts depth zero r v = refl
+judged-tries acts zero (suc l) r v = refl
+judged-tries acts (suc depth) (suc l) r v = refl
 
-step-is : (lookup : ℕ → Run → Run) (depth : ℕ) (r : Record) (v : Stage) → stepBy lookup depth r v ≡ when (readied depth r v .go) (tryIt lookup r) (readied depth r v .stage)
-step-is lookup depth r v = by (isDue r v)
+step-is : (acts : ℕ → Act) (depth : ℕ) (r : Record) (v : Stage) → stepBy acts depth r v ≡ when (readied depth r v .go) (tryIt acts r) (readied depth r v .stage)
+step-is acts depth r v = by (isDue r v)
   where
-    by : (b : Bool) → when b (dueBy lookup depth r) v
-        ≡ when (cond b (judged depth (v .run .left) (arrived r v)) (record { go = false; stage = v }) .go) (tryIt lookup r) (cond b (judged depth (v .run .left) (arrived r v)) (record { go = false; stage = v }) .stage)
-    by true = judged-tries lookup depth (v .run .left) r (arrived r v)
+    by : (b : Bool) → when b (dueBy acts depth r) v
+        ≡ when (cond b (judged depth (v .run .left) (arrived r v)) (record { go = false; stage = v }) .go) (tryIt acts r) (cond b (judged depth (v .run .left) (arrived r v)) (record { go = false; stage = v }) .stage)
+    by true = judged-tries acts depth (v .run .left) r (arrived r v)
     by false = refl
 
 -- what is so where it is tried
@@ -130,27 +131,30 @@ module _ (depth : ℕ) (r : Record) (done coming : List ℕ) (s : State) (lv : S
 -- ---- the lookups of a level, by its depth
 
 module _ (given : Given) (sets ws : List ℕ) where
-  abbrev pub nestedAt : ℕ → ℕ → Run → Run
-  nestedAt zero k x = x
-  nestedAt (suc d) k x = lookupRun (chainMatch given sets) (lookupsOf ws) d k x
+  abbrev pub lookupOf : ℕ → ℕ → Run → Run
+  lookupOf zero k x = x
+  lookupOf (suc d) k x = lookupRun (ruled given sets) (lookupsOf ws) d k x
 
-  pub nested-is : (d k : ℕ) (x : Run) → 1 ≤ d → nestedAt d k x ≡ lookupRun (chainMatch given sets) (lookupsOf ws) (d - 1) k x
+  abbrev pub nestedAt : ℕ → ℕ → Act
+  nestedAt d = acting (mending (ruled given sets) (lookupsOf ws)) (lookupOf d)
+
+  pub nested-is : (d k : ℕ) (x : Run) → 1 ≤ d → lookupOf d k x ≡ lookupRun (ruled given sets) (lookupsOf ws) (d - 1) k x
   nested-is zero k x h = let z : ⊥ = omega arith in absurd z
   nested-is (suc d) k x h = let e : suc d - 1 ≡ d = omega arith in rw e
 
-  pub chain-is : (d : ℕ) (rs : List Record) (v : Stage) → chainRun (chainMatch given sets) (lookupsOf ws) d rs v ≡ closed (recordsBy (nestedAt d) d rs v)
+  pub chain-is : (d : ℕ) (rs : List Record) (v : Stage) → chainRun (ruled given sets) (lookupsOf ws) d rs v ≡ closed (recordsBy (nestedAt d) d rs v)
   unfolding chainRun
   chain-is zero rs v = refl
   chain-is (suc d) rs v = refl
 
-  nested-adds : (d k : ℕ) → Adds (nestedAt d k)
+  nested-adds : (d k : ℕ) → Adds (lookupOf d k)
   nested-adds zero k x = refl
-  nested-adds (suc d) k x = lookup-adds (chainMatch given sets) (lookupsOf ws) d k x
+  nested-adds (suc d) k x = lookup-adds (ruled given sets) (lookupsOf ws) d k x
 
   module _ {starts : List ℕ} {count : ℕ} (x : Indexed ws starts count) where
-    nested-keeps : (d k : ℕ) → Keeps (nestedAt d k)
+    nested-keeps : (d k : ℕ) → Keeps (lookupOf d k)
     nested-keeps zero k y h = record { before = refl; long = omega arith }
-    nested-keeps (suc d) k y h = lookup-keeps (chainMatch given sets) (lookupsOf ws) (book-fair x given sets) d k y h
+    nested-keeps (suc d) k y h = lookup-keeps (ruled given sets) (lookupsOf ws) (book-fair x given sets) d k y h
 
     -- after a step the code can count on the same
     pub still-able : (d : ℕ) (r : Record) (done coming : List ℕ) (s : State) (lv : Slots) (done₂ coming₂ : List ℕ) (s₂ : State) (lv₂ : Slots)
@@ -158,7 +162,7 @@ module _ (given : Given) (sets ws : List ℕ) where
     still-able d r done coming s lv done₂ coming₂ s₂ lv₂ a e neat f =
         let v : Stage = stageOf done coming s lv in
         let sum : s₂ .left + s₂ .spent ≡ s .left + s .spent = ap (λ (w : Stage). w .run .left + w .run .tries) e ∙ step-adds (nestedAt d) (nested-adds d) d r v in
-        let g = step-good (nestedAt d) (nested-keeps d) d r 0 (runOf done coming s) v (record { level = a .sound; kept = record { before = refl; long = omega arith } }) in
+        let g = step-good (nestedAt d) (nested-keeps d) (λ k. repaired-mends) d r 0 (runOf done coming s) v (record { level = a .sound; kept = record { before = refl; long = omega arith } }) in
         record {
           fits = f;
           few = omega (arith, a .few);
@@ -182,7 +186,7 @@ module _ (given : Given) (sets ws : List ℕ) where
 
     -- a record whose lookup is tried, and the repair
     pub turn-go : y .go ≡ true → (done₂ coming₂ : List ℕ) (s₂ : State) (lv₂ : Slots)
-        → Ran done₂ coming₂ s₂ (lookupRun (chainMatch given sets) (lookupsOf ws) (depth - 1) (getD recs (i + 1) 0) (runOf done₁ coming₁ (y .state)))
+        → Ran done₂ coming₂ s₂ (lookupRun (ruled given sets) (lookupsOf ws) (depth - 1) (getD recs (i + 1) 0) (runOf done₁ coming₁ (y .state)))
         → lv₂ ≡ shown (repaired (getD recs i 0) (sizeOf (y .state .place)) (sizeOf (s₂ .place)) (levelOf (y .level)))
         → stageOf done₂ coming₂ s₂ lv₂ ≡ stepBy (nestedAt depth) depth (recordAt recs i) (stageOf done coming s lv)
     turn-go g done₂ coming₂ s₂ lv₂ ran l =
@@ -190,13 +194,13 @@ module _ (given : Given) (sets ws : List ℕ) where
         let w : Stage = stageOf done₁ coming₁ (y .state) (y .level) in
         let q : readied depth r v₀ .go ≡ true = sym (p .go) ∙ g in
         let deep : 1 ≤ depth = tried-deep depth r done coming s lv able done₁ coming₁ y p g in
-        let run₂ : runOf done₂ coming₂ s₂ ≡ nestedAt depth (getD recs (i + 1) 0) (runOf done₁ coming₁ (y .state)) =
+        let run₂ : runOf done₂ coming₂ s₂ ≡ lookupOf depth (getD recs (i + 1) 0) (runOf done₁ coming₁ (y .state)) =
         ran .is ∙ sym (nested-is depth (getD recs (i + 1) 0) (runOf done₁ coming₁ (y .state)) deep) in
         let lev : levelOf lv₂ ≡ repaired (getD recs i 0) (size (w .run)) (size (runOf done₂ coming₂ s₂)) (levelOf (y .level)) =
         ap levelOf l ∙ level-shown _
         ∙ ap₂ (λ (a b : ℕ). repaired (getD recs i 0) a b (levelOf (y .level))) (sym (size-is (p .ran .fits))) (sym (size-is (ran .fits))) in
-        let both : stageOf done₂ coming₂ s₂ lv₂ ≡ followedBy r w (runOf done₂ coming₂ s₂) = λ j. record { level = lev j; run = runOf done₂ coming₂ s₂ } in
-        both ∙ ap (followedBy r w) run₂
+        let both : stageOf done₂ coming₂ s₂ lv₂ ≡ followedBy repaired r w (runOf done₂ coming₂ s₂) = λ j. record { level = lev j; run = runOf done₂ coming₂ s₂ } in
+        both ∙ ap (followedBy repaired r w) run₂
         ∙ ap (tryIt (nestedAt depth) r) (ready-stage depth r done coming s lv able done₁ coming₁ y p)
         ∙ sym (step-is (nestedAt depth) depth r v₀ ∙ ap (λ (b : Bool). when b (tryIt (nestedAt depth) r) (readied depth r v₀ .stage)) q)
 
@@ -214,11 +218,11 @@ module _ (given : Given) (sets ws : List ℕ) where
 
   -- the level's end
   pub closed-is : (depth : ℕ) (rs : List Record) (v w : Stage) → w ≡ recordsBy (nestedAt depth) depth rs v
-      → closedAt (w .level .end) (w .run) ≡ chainRun (chainMatch given sets) (lookupsOf ws) depth rs v .run
+      → closedAt (w .level .end) (w .run) ≡ chainRun (ruled given sets) (lookupsOf ws) depth rs v .run
   unfolding closedAt closed
   closed-is depth rs v w e = ap (λ (u : Stage). when (not (isOver (u .run .ending))) (changed (movedTo (u .level .end))) (u .run)) e ∙ sym (ap (λ (u : Stage). u .run) (chain-is depth rs v))
 
-  pub closed-level : (depth : ℕ) (rs : List Record) (v w : Stage) → w ≡ recordsBy (nestedAt depth) depth rs v → w .level ≡ chainRun (chainMatch given sets) (lookupsOf ws) depth rs v .level
+  pub closed-level : (depth : ℕ) (rs : List Record) (v w : Stage) → w ≡ recordsBy (nestedAt depth) depth rs v → w .level ≡ chainRun (ruled given sets) (lookupsOf ws) depth rs v .level
   unfolding closed
   closed-level depth rs v w e = ap (λ (u : Stage). u .level) e ∙ sym (ap (λ (u : Stage). u .level) (chain-is depth rs v))
 

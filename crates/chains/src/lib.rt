@@ -7,7 +7,7 @@ ghost use Rattle.glyph.specs.Glyph.{limit};
 ghost use Rattle.text.specs.Text.{Fits};
 ghost use Rattle.book.specs.Book.{recordsOf, lookupsOf};
 ghost use Rattle.runs.specs.Run.{chainRun, lookupRun, mostAllowance};
-ghost use Rattle.runs.specs.Chain.{chainMatch};
+ghost use Rattle.runs.specs.Chain.{ruled};
 ghost use Rattle.steps.specs.State.{runOf, stageOf, Ran, Able};
 ghost use Rattle.chains.specs.Levels.{Indexed, Chained};
 
@@ -33,7 +33,7 @@ pub fn chain(
 ) -> Closed
     requires { ⌜ Indexed (now book) (now starts) count × Able (now done) (now coming) s m ⌝ }
     ensures { λ r. ⌜ Chained (now (done .exit)) (now (coming .exit)) r
-        (chainRun (chainMatch given (now (sets .entry))) (lookupsOf (now (book .entry))) depth (recordsOf (now (recs .entry))) (stageOf (now (done .entry)) (now (coming .entry)) s m)) ⌝ }
+        (chainRun (ruled given (now (sets .entry))) (lookupsOf (now (book .entry))) depth (recordsOf (now (recs .entry))) (stageOf (now (done .entry)) (now (coming .entry)) s m)) ⌝ }
 {
     let mut st = s;
     let mut lv = m;
@@ -88,7 +88,7 @@ fn lookup(
 ) -> State
     requires { ⌜ Indexed (now book) (now starts) count × Fits (now done) (now coming) (s .place) × (s .place .idx < limit) × (s .left + s .spent ≤ mostAllowance) ⌝ }
     ensures { λ r. ⌜ Ran (now (done .exit)) (now (coming .exit)) r
-        (lookupRun (chainMatch given (now (sets .entry))) (lookupsOf (now (book .entry))) depth k (runOf (now (done .entry)) (now (coming .entry)) s)) ⌝ }
+        (lookupRun (ruled given (now (sets .entry))) (lookupsOf (now (book .entry))) depth k (runOf (now (done .entry)) (now (coming .entry)) s)) ⌝ }
 {
     let e = book::find_in(book, starts, count, k);
     let place = s.place;

@@ -20,7 +20,7 @@ use Rattle.runs.specs.declared.Ending.the-variants.{Finished, Short, Deep, Full
 use Rattle.runs.specs.declared.Given.{Given}
 use Rattle.runs.specs.Repair.{Level}
 use Rattle.runs.specs.Run.{Run, Stage, runOn, movedLevel, mostAllowance, mostDepth}
-use Rattle.runs.specs.Chain.{chainMatch}
+use Rattle.runs.specs.Chain.{ruled}
 use Rattle.nested.specs.declared.Refusal.{Refusal}
 use Rattle.nested.specs.declared.Refusal.the-variants.{Shape, Cursor, Limits, Book, Match}
 use Rattle.nested.specs.declared.RunEnding.{RunEnding}
@@ -91,7 +91,7 @@ pub record Whole (v : Stage) (done coming : List ℕ) (r : RunAnswer) : Type 0 w
 abbrev pub runSays : List ℕ → List ℕ → Place → List ℕ → List ℕ → List ℕ → InputMatch → Given → ℕ → ℕ → Stage
 runSays done coming p sets book records m given allowance depth =
     let first = movedLevel (p .idx) (p .d) (take (m .count) (m .positions)) (endOf (m .answer)) in
-    runOn (chainMatch given sets) (lookupsOf book) depth (recordsOf records) (first .positions) (first .end) allowance (textOf done coming p)
+    runOn (ruled given sets) (lookupsOf book) depth (recordsOf records) (first .positions) (first .end) allowance (textOf done coming p)
 
 -- refused: the number, and no word changed; accepted: what the run on the text says
 abbrev pub Said : Checked → Stage → List ℕ → List ℕ → List ℕ → List ℕ → RunAnswer → Type 0

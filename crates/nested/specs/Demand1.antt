@@ -14,7 +14,7 @@ use Rattle.book.specs.Only.{reads-exactly}
 use Rattle.runs.specs.declared.Ending.{Ending}
 use Rattle.runs.specs.declared.Ending.the-variants.{Finished, Short, Deep, Full}
 use Rattle.runs.specs.Run.{Stage, opened, begun, movedLevel}
-use Rattle.runs.specs.Chain.{chainMatch}
+use Rattle.runs.specs.Chain.{ruled}
 use Rattle.runs.specs.Met.{Met}
 use Rattle.runs.specs.Promises.{short-exactly}
 use Rattle.runs.specs.Stops.{MetDepth, MetLimit, deep-exactly, full-exactly}
@@ -43,13 +43,13 @@ openedBy h allowance =
 
 -- a due record met allowance 0; met depth 0 with allowance left; a kind 2 result would have passed the limit
 abbrev pub MetAllowance0 : Handed → ℕ → ℕ → Type 0
-MetAllowance0 h allowance depth = Met (chainMatch (h .given) (h .sets)) (lookupsOf (h .book)) depth (recordsOf (h .records)) (openedBy h allowance)
+MetAllowance0 h allowance depth = Met (ruled (h .given) (h .sets)) (lookupsOf (h .book)) depth (recordsOf (h .records)) (openedBy h allowance)
 
 abbrev pub MetDepth0 : Handed → ℕ → ℕ → Type 0
-MetDepth0 h allowance depth = MetDepth (chainMatch (h .given) (h .sets)) (lookupsOf (h .book)) depth (recordsOf (h .records)) (openedBy h allowance)
+MetDepth0 h allowance depth = MetDepth (ruled (h .given) (h .sets)) (lookupsOf (h .book)) depth (recordsOf (h .records)) (openedBy h allowance)
 
 abbrev pub MetFull : Handed → ℕ → ℕ → Type 0
-MetFull h allowance depth = MetLimit (chainMatch (h .given) (h .sets)) (lookupsOf (h .book)) depth (recordsOf (h .records)) (openedBy h allowance)
+MetFull h allowance depth = MetLimit (ruled (h .given) (h .sets)) (lookupsOf (h .book)) depth (recordsOf (h .records)) (openedBy h allowance)
 
 pub record Demand1 (h : Handed) (allowance depth : ℕ) (l : Left) : Type 0 where
   pub refused-1 : repliesAs 1 [] l ↔ (ShapedOf h → ⊥)
@@ -117,7 +117,7 @@ module _ (h : Handed) (a d : ℕ) (l : Left) (c : Called h a d l) where
 
   pub demand-1 : Demand1 h a d l
   demand-1 =
-      let match = chainMatch (h .given) (h .sets) in
+      let rules = ruled (h .given) (h .sets) in
       let first = movedLevel (h .place .idx) (h .place .d) (placesOf (h .match)) (endOf (h .match .answer)) in
       let t = textOf (h .done) (h .coming) (h .place) in
       let r = readable (h .book) (c .book-words) in
@@ -138,7 +138,7 @@ module _ (h : Handed) (a d : ℕ) (l : Left) (c : Called h a d l) where
           ⊎-elim (λ z. accepted .0 (told Finished .0 z .0))
               (⊎-elim (λ z. accepted .0 (told Short .0 z .0)) (⊎-elim (λ z. accepted .0 (told Deep .0 z .0)) (λ z. accepted .0 (told Full .0 z .0)))),
         );
-        short-8 = ends Short (short-exactly match (lookupsOf (h .book)) (recordsOf (h .records)) (first .positions) (first .end) t d a);
-        deep-9 = ends Deep (deep-exactly match (lookupsOf (h .book)) (recordsOf (h .records)) (first .positions) (first .end) t d a);
-        full-10 = ends Full (full-exactly match (lookupsOf (h .book)) (recordsOf (h .records)) (first .positions) (first .end) t d a);
+        short-8 = ends Short (short-exactly rules (lookupsOf (h .book)) (recordsOf (h .records)) (first .positions) (first .end) t d a);
+        deep-9 = ends Deep (deep-exactly rules (lookupsOf (h .book)) (recordsOf (h .records)) (first .positions) (first .end) t d a);
+        full-10 = ends Full (full-exactly rules (lookupsOf (h .book)) (recordsOf (h .records)) (first .positions) (first .end) t d a);
       }

@@ -17,7 +17,7 @@ use Rattle.runs.specs.declared.Ending.the-variants.{Finished, Short, Deep, Full
 use Rattle.runs.specs.declared.Given.{Given}
 use Rattle.runs.specs.Repair.{Level}
 use Rattle.runs.specs.Run.{Stage, movedLevel}
-use Rattle.runs.specs.Chain.{chainMatch}
+use Rattle.runs.specs.Chain.{ruled}
 use Rattle.runs.specs.Promises.{Alike, more-is-same, less-is-short, spent-within}
 use Rattle.nested.specs.declared.Refusal.{Refusal}
 use Rattle.nested.specs.declared.Refusal.the-variants.{Shape, Cursor, Limits, Book, Match}
@@ -117,7 +117,7 @@ module _ (h : Handed) where
       same-by a′ d′ l′ c′ more deeper lim =
           let w′ = said-whole a′ d′ l′ c′ (still-accepted a d a′ d′ (ended .taken) lim) in
           let alike : Alike (stageOf h a′ d′) (stageOf h a d) =
-          more-is-same (chainMatch (h .given) (h .sets)) (lookupsOf (h .book)) (recordsOf (h .records)) (first .positions) (first .end) t d d′ a a′ deeper more (ended .finished) in
+          more-is-same (ruled (h .given) (h .sets)) (lookupsOf (h .book)) (recordsOf (h .records)) (first .positions) (first .end) t d d′ a a′ deeper more (ended .finished) in
           let s = run-decided Checked.Accepted (stageOf h a d) (h .done) (h .coming) (l .done) (l .coming) (l .answer) (l′ .done) (l′ .coming) (l′ .answer)
           (c .done-words) (c .coming-words) (c′ .done-words) (c′ .coming-words) (ended .whole) (whole-alike (stageOf h a′ d′) (stageOf h a d) (l′ .done) (l′ .coming) (l′ .answer) alike w′) in
           record { answer = s .answer; reply = ap runReply (s .answer); done-same = s .done-same; coming-same = s .coming-same }
@@ -130,14 +130,14 @@ module _ (h : Handed) where
 
       short-by : (a′ : ℕ) (l′ : Left) → Called h a′ d l′ → a′ < l .answer .spent → numberOf l′ ≡ 8
       short-by a′ l′ c′ lt =
-          let match = chainMatch (h .given) (h .sets) in
+          let rules = ruled (h .given) (h .sets) in
           let book = lookupsOf (h .book) in
           let records = recordsOf (h .records) in
           let some : a′ < stageOf h a d .run .tries = omega (arith, ended .whole .spent) in
-          let few = spent-within match book records (first .positions) (first .end) t d a in
+          let few = spent-within rules book records (first .positions) (first .end) t d a in
           let lim = limits-of a d (ended .taken) in
           let w′ = said-whole a′ d l′ c′ (still-accepted a d a′ d (ended .taken) (omega (arith, lim .0), lim .1)) in
-          let e : stageOf h a′ d .run .ending ≡ Short = less-is-short match book records (first .positions) (first .end) t d a a′ (ended .finished) some in
+          let e : stageOf h a′ d .run .ending ≡ Short = less-is-short rules book records (first .positions) (first .end) t d a a′ (ended .finished) some in
           ended-number (l′ .answer) Short (w′ .ending ∙ ap RunEnding.Ended e)
 
 -- the number spent is the first value of a reply of 0

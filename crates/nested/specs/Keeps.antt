@@ -4,11 +4,12 @@ use mathlib.Core.Path.{_≡_, refl, sym, ap, ap₂, subst, _∙_}
 use mathlib.Core.List.{List}
 use Prim.Native.Nat.{ℕ, _-_, _≤_, _<_}
 use native.Mathlib.Omega.{arith}
-use lib.ListN.{length, take, replicate, length-take, length-map}
+use lib.ListN.{length, getD, take, replicate, length-take, length-map}
 use lib.Seq.{take-at}
-use Rattle.glyph.specs.Glyph.{limit, glyphsOf}
+use Rattle.glyph.specs.declared.Glyph.{Glyph}
+use Rattle.glyph.specs.Glyph.{limit, glyphsOf, blank}
 use Rattle.text.specs.declared.Place.{Place}
-use Rattle.text.specs.Text.{Text, textOf, Fits}
+use Rattle.text.specs.Text.{Text, textOf, written, Fits}
 use Rattle.text.specs.Changes.{before-cursor}
 use Rattle.text.specs.Laws.{sizes}
 use Rattle.matching.specs.Take.{slots}
@@ -20,7 +21,8 @@ use Rattle.runs.specs.Repair.{Level, Rises, Sound}
 use Rattle.runs.specs.Run.{begun, fromDone, movedLevel}
 use Rattle.runs.specs.Rises.{rises-wider}
 use Rattle.runs.specs.Kept.{Fair, Good}
-use Rattle.runs.specs.Chain.{chainMatch}
+use Rattle.runs.specs.Chain.{ruled}
+use Rattle.runs.specs.Drawn.{Drawn, Copied, Has, Steady, mask, mask-copied, run-drawn, drawn-has, drawn-steady}
 use Rattle.runs.specs.Promises.{run-good}
 use Rattle.nested.specs.declared.Checked.{Checked}
 use Rattle.chains.specs.Cycle.{book-fair}
@@ -35,7 +37,7 @@ use Rattle.matching.specs.Answers.{endOf}
 abbrev pub textAfter : Left → Text
 textAfter l = textOf (l .done) (l .coming) (record { d = l .answer .d; idx = l .answer .idx })
 
-fair-of : (book : List ℕ) (given : Given) (sets : List ℕ) → Readable book → Fair (chainMatch given sets) (lookupsOf book)
+fair-of : (book : List ℕ) (given : Given) (sets : List ℕ) → Readable book → Fair (ruled given sets) (lookupsOf book)
 fair-of book given sets r =
     book-fair (index-is book (indexOf book) refl (index-reads book ∙ ap (λ (k : Reading). isRead k) (r .1))) given sets
 
@@ -75,7 +77,7 @@ module _ (h : Handed) where
     good =
         let f = fits (lines .0) (lines .1) in
         let z = sizes (h .done) (h .coming) p f in
-        run-good (chainMatch (h .given) (h .sets)) (lookupsOf (h .book)) (recordsOf (h .records)) (first .positions) (first .end) t
+        run-good (ruled (h .given) (h .sets)) (lookupsOf (h .book)) (recordsOf (h .records)) (first .positions) (first .end) t
         (fair-of (h .book) (h .given) (h .sets) (lines .2)) d a (first-sound f (lines .3)) (omega arith)
 
     whole : Whole (stageOf h a d) (l .done) (l .coming) (l .answer)
@@ -101,3 +103,16 @@ module _ (h : Handed) where
         let e : take (l .answer .count) (l .answer .positions) ≡ ps =
         ap₂ (λ (n : ℕ) (s : List ℕ). take n s) (whole .count) (whole .positions) ∙ take-at ps (replicate (slots - length ps) 0) (length ps) refl in
         rw e (rises-wider (p .d) (length (textAfter l .glyphs)) (omega arith) (level-sound .within) (level-sound .rises))
+
+    -- a field that is copied into what is written: its values after are those before, in their order
+    fields-drawn : {X : Type 0} (f : Glyph → X) → Copied f written → Drawn f (t .glyphs) (textAfter l .glyphs)
+    fields-drawn f k = subst (λ (u : Text). Drawn f (t .glyphs) (u .glyphs)) (sym (whole .holds .text))
+        (run-drawn (ruled (h .given) (h .sets)) (lookupsOf (h .book)) d (recordsOf (h .records)) (first .positions) (first .end) a t f k)
+
+    -- every glyph after the call has the mask of some glyph before it
+    pub masks-were-there : (i : ℕ) → i < length (textAfter l .glyphs) → Has mask (t .glyphs) (mask (getD (textAfter l .glyphs) i blank))
+    masks-were-there i k = drawn-has mask (fields-drawn mask mask-copied) i k
+
+    -- what never fell along the text never falls after the call
+    pub stays-steady : (f : Glyph → ℕ) → Copied f written → Steady f (t .glyphs) → Steady f (textAfter l .glyphs)
+    stays-steady f k s = drawn-steady f (fields-drawn f k) s

@@ -13,7 +13,7 @@ ghost use Rattle.glyph.specs.Glyph.{limit};
 ghost use Rattle.text.specs.Text.{textOf, Fits};
 ghost use Rattle.book.specs.Book.{recordsOf, lookupsOf};
 ghost use Rattle.runs.specs.Run.{begun, chainRun, mostAllowance};
-ghost use Rattle.runs.specs.Chain.{chainMatch};
+ghost use Rattle.runs.specs.Chain.{ruled};
 ghost use Rattle.levels.specs.Slots.{levelOf, Neat};
 ghost use Rattle.chains.specs.Levels.{Indexed};
 ghost use Rattle.nested.specs.Calls.{badRecords, checkedFirst, checkedMatch, checkedAll, risesTo, goodPlaces, refusedBy, Whole, runSays, Said};
@@ -258,7 +258,7 @@ fn go(
     depth: usize,
 ) -> RunAnswer
     requires { ⌜ Indexed (now book) (now starts) count × Fits (now done) (now coming) place × (allowance ≤ mostAllowance) × Neat m × Sound 0 (length (textOf (now done) (now coming) place .glyphs)) (levelOf m) ⌝ }
-    ensures { λ r. ⌜ Whole (chainRun (chainMatch given (now (sets .entry))) (lookupsOf (now (book .entry))) depth (recordsOf (now (records .entry)))
+    ensures { λ r. ⌜ Whole (chainRun (ruled given (now (sets .entry))) (lookupsOf (now (book .entry))) depth (recordsOf (now (records .entry)))
         (record { level = levelOf m; run = begun allowance (textOf (now (done .entry)) (now (coming .entry)) place) })) (now (done .exit)) (now (coming .exit)) r ⌝ }
 {
     let s = State {

@@ -7,7 +7,7 @@ use Prim.Native.Nat.{ℕ, _+_}
 use lib.Dec.{eqb}
 use lib.ListN.{length, getD, take}
 use Rattle.glyph.specs.Glyph.{blank}
-use Rattle.text.specs.Text.{Text}
+use Rattle.text.specs.Text.{Text, written}
 use Rattle.verdict.specs.declared.Table.{Table}
 use Rattle.verdict.specs.Verdict.{Asked, equalTo}
 use Rattle.matching.specs.declared.Lookup.{Lookup as Question}
@@ -15,7 +15,8 @@ use Rattle.matching.specs.Take.{ahead, Outcome, taken, lost, unlike, reached}
 use Rattle.matching.specs.Matchers.{inputOn, aheadOn, backOn}
 use Rattle.book.specs.Book.{Lookup, Kind1, Kind2, Kind3}
 use Rattle.runs.specs.declared.Given.{Given}
-use Rattle.runs.specs.Run.{Match, Matched, Unmatched}
+use Rattle.runs.specs.Run.{Match, Matched, Unmatched, Rules}
+use Rattle.runs.specs.Repair.{repaired}
 
 -- what a chain with these props asks of the glyphs
 abbrev pub asks : Given → ℕ → Question
@@ -68,3 +69,7 @@ chainMatch given sets (Kind2 props from ids) t = Unmatched
 chainMatch given sets (Kind3 props first back input onward records) t =
     let q = asks given props in
     cond (eqb (getD (t .glyphs) (t .cursor) blank .id) first) (afterInput q sets equalTo t back onward (inputAt q sets equalTo t input)) Unmatched
+
+-- the rules of a run: chains match so, a written glyph keeps all but its id, and a level is repaired alike after every lookup
+abbrev pub ruled : Given → List ℕ → Rules
+ruled given sets = record { match = chainMatch given sets; write = written; repair = λ found. repaired }

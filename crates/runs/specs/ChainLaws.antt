@@ -21,8 +21,9 @@ use Rattle.book.specs.Book.{Record, Lookup, Kind1, Kind2, Kind3, Is, lookupAt, 
 use Rattle.runs.specs.declared.Given.{Given}
 use Rattle.runs.specs.Run.{Match, Matched, Unmatched}
 use Rattle.runs.specs.Repair as rises
+use Rattle.runs.specs.Rises.{repaired-mends}
 use Rattle.runs.specs.Kept.{Fitting, Fair}
-use Rattle.runs.specs.Chain.{asks, inputAt, aheadAt, backAt, endAfter, isTaken, contextMatched, afterInput, chainMatch}
+use Rattle.runs.specs.Chain.{asks, inputAt, aheadAt, backAt, endAfter, isTaken, contextMatched, afterInput, chainMatch, ruled}
 use Rattle.runs.specs.Repair.{Rises, Sound}
 
 -- no chain of the book has over 63 input values
@@ -66,12 +67,15 @@ module _ {X : Type 0} (q : Question) (sets : List ℕ) (test : X → Asked) (t :
   after-fitting back onward values few (lost extent) e = tt
   after-fitting back onward values few unlike e = tt
 
-pub chain-fair : (given : Given) (sets : List ℕ) (book : List Lookup) → FewValues book → Fair (chainMatch given sets) book
+chain-matches : (given : Given) (sets : List ℕ) (book : List Lookup) → FewValues book → (k : ℕ) (l : Lookup) (t : Text) → lookupAt k book ≡ Is l → t .cursor < length (t .glyphs) → Fitting t (chainMatch given sets l t)
 unfolding chainMatch
-chain-fair given sets book few k (Kind1 props from to) t e h = tt
-chain-fair given sets book few k (Kind2 props from ids) t e h = tt
-chain-fair given sets book few k (Kind3 props first back input onward records) t e h = by (eqb (getD (t .glyphs) (t .cursor) blank .id) first)
+chain-matches given sets book few k (Kind1 props from to) t e h = tt
+chain-matches given sets book few k (Kind2 props from ids) t e h = tt
+chain-matches given sets book few k (Kind3 props first back input onward records) t e h = by (eqb (getD (t .glyphs) (t .cursor) blank .id) first)
   where
     by : (b : Bool) → Fitting t (cond b (afterInput (asks given props) sets equalTo t back onward (inputAt (asks given props) sets equalTo t input)) Unmatched)
     by true = after-fitting (asks given props) sets equalTo t h back onward input (few k props first back input onward records e) (inputAt (asks given props) sets equalTo t input) refl
     by false = tt
+
+pub chain-fair : (given : Given) (sets : List ℕ) (book : List Lookup) → FewValues book → Fair (ruled given sets) book
+chain-fair given sets book few = record { matches = chain-matches given sets book few; mends = λ found. repaired-mends }

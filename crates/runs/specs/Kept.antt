@@ -11,14 +11,14 @@ use lib.ListN.{length, getD, take, drop}
 use lib.Seq.{take-take}
 use Rattle.bits.specs.Laws.{and-left, and-right}
 use Rattle.glyph.specs.declared.Glyph.{Glyph}
-use Rattle.text.specs.Text.{Text, movedTo, replaced, isFull}
+use Rattle.text.specs.Text.{Text, movedTo, replacedBy, isFull}
 use Rattle.text.specs.Changes.{replaced-length, replaced-before}
 use Rattle.book.specs.Book.{Record, Lookup, Kind1, Kind2, Kind3, Found, Is, None, lookupAt}
 use Rattle.runs.specs.declared.Ending.{Ending}
 use Rattle.runs.specs.declared.Ending.the-variants.{Full}
-use Rattle.runs.specs.Repair.{Level, repaired, Sound}
-use Rattle.runs.specs.Run.{Run, Stage, Match, Matched, Unmatched, isOver, size, changed, endingAs, when, isAt, multiplied, opened, chainedBy, appliedBy, placeOf, isDue, arrived, spending, followedBy, triedBy, dueBy, stepBy, recordsBy, closed, chainRun, lookupRun}
-use Rattle.runs.specs.Rises.{repaired-sound, rises-at}
+use Rattle.runs.specs.Repair.{Level, Mends, Sound}
+use Rattle.runs.specs.Run.{Run, Stage, Act, Rules, Match, Matched, Unmatched, isOver, size, changed, endingAs, when, isAt, multipliedBy, opened, chainedBy, appliedBy, placeOf, isDue, arrived, spending, followedBy, triedBy, dueBy, stepBy, recordsBy, closed, acting, mending, chainRun, lookupRun}
+use Rattle.runs.specs.Rises.{rises-at}
 
 -- y has the glyphs of x before place p
 pub record Kept (p : ℕ) (x y : Run) : Type 0 where
@@ -30,9 +30,10 @@ abbrev pub Fitting : Text → Match → Type 0
 Fitting t (Matched positions end) = Sound (t .cursor) (length (t .glyphs)) (record { live = true; positions = positions; end = end })
 Fitting t Unmatched = Unit {0}
 
--- the chains of the book match in the text
-abbrev pub Fair : (Lookup → Text → Match) → List Lookup → Type 0
-Fair match book = (k : ℕ) (l : Lookup) (t : Text) → lookupAt k book ≡ Is l → t .cursor < length (t .glyphs) → Fitting t (match l t)
+-- the chains of the book match in the text, and repairs keep a level sound
+pub record Fair (rules : Rules) (book : List Lookup) : Type 0 where
+  pub matches : (k : ℕ) (l : Lookup) (t : Text) → lookupAt k book ≡ Is l → t .cursor < length (t .glyphs) → Fitting t (rules .match l t)
+  pub mends : (found : Found) → Mends (rules .repair found)
 
 -- a lookup keeps what is before the cursor
 abbrev pub Keeps : (Run → Run) → Type 0
@@ -56,8 +57,8 @@ same-kept p x y e h = record { before = ap (λ (g : List Glyph). take p g) e; lo
 
 -- ---- a lookup
 
-replaced-keeps : (ids : List ℕ) → Keeps (changed (replaced ids))
-replaced-keeps ids x h = record { before = replaced-before ids (x .text) (omega arith); long = omega (arith, replaced-length ids (x .text) h) }
+replaced-keeps : (write : ℕ → Glyph → Glyph) (ids : List ℕ) → Keeps (changed (replacedBy write ids))
+replaced-keeps write ids x h = record { before = replaced-before write ids (x .text) (omega arith); long = omega (arith, replaced-length write ids (x .text) h) }
 
 when-keeps : (c : Run → Bool) (f : Run → Run) → Keeps f → Keeps (λ x. when (c x) f x)
 when-keeps c f F x h = by (c x)
@@ -66,12 +67,12 @@ when-keeps c f F x h = by (c x)
     by true = F x h
     by false = same-kept (x .text .cursor) x x refl (omega arith)
 
-multiplied-keeps : (ids : List ℕ) → Keeps (multiplied ids)
-multiplied-keeps ids x h = by (isFull (size x) (length ids))
+multiplied-keeps : (write : ℕ → Glyph → Glyph) (ids : List ℕ) → Keeps (multipliedBy write ids)
+multiplied-keeps write ids x h = by (isFull (size x) (length ids))
   where
-    by : (b : Bool) → Kept (x .text .cursor) x (cond b (endingAs Full x) (changed (replaced ids) x))
+    by : (b : Bool) → Kept (x .text .cursor) x (cond b (endingAs Full x) (changed (replacedBy write ids) x))
     by true = same-kept (x .text .cursor) x (endingAs Full x) refl (omega arith)
-    by false = replaced-keeps ids x h
+    by false = replaced-keeps write ids x h
 
 -- the records of a level keep it good
 abbrev pub KeepsLevel : (Stage → Stage) → Type 0
@@ -82,17 +83,17 @@ chained-keeps f F x (Matched positions end) h s =
     F (x .text .cursor) x (opened positions end x) (record { level = s; kept = same-kept (x .text .cursor) x x refl (omega arith) }) .kept
 chained-keeps f F x Unmatched h s = same-kept (x .text .cursor) x x refl (omega arith)
 
-module _ (match : Lookup → Text → Match) (book : List Lookup) (fair : Fair match book) where
+module _ (rules : Rules) (book : List Lookup) (fair : Fair rules book) where
   applied-keeps : (chain : List Record → Stage → Stage) → ((rs : List Record) → KeepsLevel (chain rs)) → (k : ℕ) (found : Found) → lookupAt k book ≡ found
-      → Keeps (appliedBy match chain found)
-  applied-keeps chain C k (Is (Kind1 props from to)) e = when-keeps (isAt from) (changed (replaced (to ∷ []))) (replaced-keeps (to ∷ []))
-  applied-keeps chain C k (Is (Kind2 props from ids)) e = when-keeps (isAt from) (multiplied ids) (multiplied-keeps ids)
+      → Keeps (appliedBy rules chain found)
+  applied-keeps chain C k (Is (Kind1 props from to)) e = when-keeps (isAt from) (changed (replacedBy (rules .write) (to ∷ []))) (replaced-keeps (rules .write) (to ∷ []))
+  applied-keeps chain C k (Is (Kind2 props from ids)) e = when-keeps (isAt from) (multipliedBy (rules .write) ids) (multiplied-keeps (rules .write) ids)
   applied-keeps chain C k (Is (Kind3 props first back input ahead rs)) e = λ x h.
-      chained-keeps (chain rs) (C rs) x (match (Kind3 props first back input ahead rs) (x .text)) h
-      (fair k (Kind3 props first back input ahead rs) (x .text) e h)
+      chained-keeps (chain rs) (C rs) x (rules .match (Kind3 props first back input ahead rs) (x .text)) h
+      (fair .matches k (Kind3 props first back input ahead rs) (x .text) e h)
   applied-keeps chain C k None e = λ x h. same-kept (x .text .cursor) x x refl (omega arith)
 
--- ---- a record, for any lookups that keep what is before the cursor
+-- ---- a record, for any lookups that keep what is before the cursor, and any repairs that keep a level sound
 
 -- what a due record shows
 pub record Due (r : Record) (v : Stage) : Type 0 where
@@ -114,8 +115,8 @@ due-shows r v e =
       live = and-left a (b && (i && p)) e;
     }
 
-module _ (lookup : ℕ → Run → Run) (K : (k : ℕ) → Keeps (lookup k)) where
-  tried-good : (d l : ℕ) (r : Record) (low : ℕ) (x : Run) (v : Stage) → Due r v → Good low x v → Good low x (triedBy lookup d l r (arrived r v))
+module _ (acts : ℕ → Act) (K : (k : ℕ) → Keeps (acts k .does)) (M : (k : ℕ) → Mends (acts k .repair)) where
+  tried-good : (d l : ℕ) (r : Record) (low : ℕ) (x : Run) (v : Stage) → Due r v → Good low x v → Good low x (triedBy acts d l r (arrived r v))
   unfolding triedBy
   tried-good d zero r low x v u g = record {
     level = record { few = g .level .few; rises = g .level .rises; begins = g .level .begins; within = g .level .within };
@@ -127,25 +128,25 @@ module _ (lookup : ℕ → Run → Run) (K : (k : ℕ) → Keeps (lookup k)) whe
   }
   tried-good (suc d) (suc l) r low x v u g =
       let y : Run = spending l (arrived r v .run) in
-      let k : Kept (placeOf r v) y (lookup (r .lookup) y) = K (r .lookup) y (u .inside) in
+      let k : Kept (placeOf r v) y (acts (r .lookup) .does y) = K (r .lookup) y (u .inside) in
       let q = rises-at (r .seq) (u .index) (g .level .rises) in
       let o : Kept low x y = record { before = g .kept .before; long = g .kept .long } in
       record {
-        level = repaired-sound (g .level) (r .seq) (u .index) (size (lookup (r .lookup) y)) (k .long);
+        level = M (r .lookup) low (size (v .run)) (v .level) (g .level) (r .seq) (u .index) (size (acts (r .lookup) .does y)) (k .long);
         kept = kept-on (omega (arith, q .0)) o k;
       }
 
-  pub step-good : (d : ℕ) (r : Record) → KeepsLevel (stepBy lookup d r)
+  pub step-good : (d : ℕ) (r : Record) → KeepsLevel (stepBy acts d r)
   step-good d r low x v g = by (isDue r v) refl
     where
-      by : (b : Bool) → isDue r v ≡ b → Good low x (when b (dueBy lookup d r) v)
+      by : (b : Bool) → isDue r v ≡ b → Good low x (when b (dueBy acts d r) v)
       by true e = tried-good d (v .run .left) r low x v (due-shows r v e) g
       by false e = g
 
-  pub records-good : (d : ℕ) (rs : List Record) → KeepsLevel (recordsBy lookup d rs)
+  pub records-good : (d : ℕ) (rs : List Record) → KeepsLevel (recordsBy acts d rs)
   unfolding recordsBy
   records-good d [] low x v g = g
-  records-good d (r ∷ rs) low x v g = records-good d rs low x (stepBy lookup d r v) (step-good d r low x v g)
+  records-good d (r ∷ rs) low x v g = records-good d rs low x (stepBy acts d r v) (step-good d r low x v g)
 
 closed-good : KeepsLevel closed
 unfolding closed
@@ -157,14 +158,14 @@ closed-good low x v g = by (not (isOver (v .run .ending)))
 
 -- ---- the book
 
-module _ (match : Lookup → Text → Match) (book : List Lookup) (fair : Fair match book) where
+module _ (rules : Rules) (book : List Lookup) (fair : Fair rules book) where
   -- the records of a level leave it sound, and the glyphs before its first position untouched
-  pub chain-good : (d : ℕ) (rs : List Record) → KeepsLevel (chainRun match book d rs)
+  pub chain-good : (d : ℕ) (rs : List Record) → KeepsLevel (chainRun rules book d rs)
   unfolding chainRun
-  chain-good zero rs low x v g = closed-good low x _ (records-good (λ k y. y) (λ k y h. same-kept (y .text .cursor) y y refl (omega arith)) zero rs low x v g)
+  chain-good zero rs low x v g = closed-good low x _ (records-good (acting (mending rules book) (λ k y. y)) (λ k y h. same-kept (y .text .cursor) y y refl (omega arith)) (λ k. fair .mends (lookupAt k book)) zero rs low x v g)
   chain-good (suc d) rs low x v g =
-      closed-good low x _ (records-good (lookupRun match book d) (λ k. applied-keeps match book fair (chainRun match book d) (chain-good d) k (lookupAt k book) refl) (suc d) rs low x v g)
+      closed-good low x _ (records-good (acting (mending rules book) (lookupRun rules book d)) (λ k. applied-keeps rules book fair (chainRun rules book d) (chain-good d) k (lookupAt k book) refl) (λ k. fair .mends (lookupAt k book)) (suc d) rs low x v g)
 
   -- a lookup leaves the glyphs before the cursor untouched
-  pub lookup-keeps : (d k : ℕ) → Keeps (lookupRun match book d k)
-  lookup-keeps d k = applied-keeps match book fair (chainRun match book d) (chain-good d) k (lookupAt k book) refl
+  pub lookup-keeps : (d k : ℕ) → Keeps (lookupRun rules book d k)
+  lookup-keeps d k = applied-keeps rules book fair (chainRun rules book d) (chain-good d) k (lookupAt k book) refl

@@ -10,3 +10,5 @@ pub mod Chain
 pub mod ChainLaws
 pub mod Over
 pub mod Stops
+pub mod Related
+pub mod Drawn

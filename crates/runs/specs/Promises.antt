@@ -1,4 +1,4 @@
--- Demand 3 and its companions, of any run over a text: whatever the book, the records, the match and the way in which chains are matched (01, "Nailing an answer down").
+-- Demand 3 and its companions, of any run over a text: whatever the book, the records, the match and the rules by which chains are matched, glyphs written and levels repaired (01, "Nailing an answer down").
 use mathlib.Core.Path.{_≡_, refl, sym, ap, _∙_}
 use mathlib.Core.Bool.{true}
 use mathlib.Core.List.{List}
@@ -11,7 +11,7 @@ use Rattle.text.specs.Text.{Text}
 use Rattle.book.specs.Book.{Record, Lookup}
 use Rattle.runs.specs.declared.Ending.{Ending}
 use Rattle.runs.specs.declared.Ending.the-variants.{Finished, Short, Deep, Full}
-use Rattle.runs.specs.Run.{Run, Stage, Match, opened, begun, chainRun, runOn}
+use Rattle.runs.specs.Run.{Run, Stage, Rules, opened, begun, chainRun, runOn}
 use Rattle.runs.specs.Kept.{Fair, Good, chain-good}
 use Rattle.runs.specs.Spending.{leftOf, endOf, refilledOf, chain-core}
 use Rattle.runs.specs.Tries.{chain-adds, chain-told}
@@ -26,25 +26,25 @@ pub record Alike (v w : Stage) : Type 0 where
   pub positions : v .level .positions ≡ w .level .positions
   pub spent : v .run .tries ≡ w .run .tries
 
-module _ (match : Lookup → Text → Match) (book : List Lookup) (records : List Record) (positions : List ℕ) (end : ℕ) (t : Text) where
+module _ (rules : Rules) (book : List Lookup) (records : List Record) (positions : List ℕ) (end : ℕ) (t : Text) where
   -- the run at a depth, with an allowance
   abbrev run : ℕ → ℕ → Stage
-  run depth allowance = runOn match book depth records positions end allowance t
+  run depth allowance = runOn rules book depth records positions end allowance t
 
   -- the number spent is the number of tries, which the allowance fell by
   pub spent-is-tries : (d a : ℕ) → run d a .run .left + run d a .run .tries ≡ a
-  spent-is-tries d a = chain-adds match book d records (opened positions end (begun a t)) ∙ add-zero a
+  spent-is-tries d a = chain-adds rules book d records (opened positions end (begun a t)) ∙ add-zero a
 
   pub spent-within : (d a : ℕ) → run d a .run .tries ≤ a
   spent-within d a = omega (arith, spent-is-tries d a)
 
   -- Short exactly when a due record met allowance 0
   pub short-exactly : (d a : ℕ) → (run d a .run .ending ≡ Short)
-      ↔ Met match book d records (opened positions end (begun a t))
+      ↔ Met rules book d records (opened positions end (begun a t))
   short-exactly d a = (
     λ e. ⊎-elim (λ h. let z : _≡_ {A = ℕ} 0 1 = cc in absurd (omega arith)) (λ m. m)
-        (chain-told match book d records .only (opened positions end (begun a t)) e),
-    λ m. chain-told match book d records .so (opened positions end (begun a t)) m .0,
+        (chain-told rules book d records .only (opened positions end (begun a t)) e),
+    λ m. chain-told rules book d records .so (opened positions end (begun a t)) m .0,
   )
 
   -- at least the allowance and the depth of a run that ended Finished
@@ -55,7 +55,7 @@ module _ (match : Lookup → Text → Match) (book : List Lookup) (records : Lis
       let i : a′ ≡ a′ - s + s = omega arith in
       let q : run d′ a′ ≡ refilledOf (a′ - s) (run d a) =
       ap (λ (n : ℕ). run d′ n) i
-      ∙ chain-core match book d d′ deeper records .0 .enough (opened positions end (begun a t)) s (a′ - s) e sum in
+      ∙ chain-core rules book d d′ deeper records .0 .enough (opened positions end (begun a t)) s (a′ - s) e sum in
       record {
         finished = (ap (λ (v : Stage). v .run .ending) q ∙ e, e);
         glyphs = ap (λ (v : Stage). v .run .text .glyphs) q;
@@ -67,16 +67,16 @@ module _ (match : Lookup → Text → Match) (book : List Lookup) (records : Lis
   -- any allowance below what a Finished run spent; so one less, where it spent any
   pub less-is-short : (d a a′ : ℕ) → run d a .run .ending ≡ Finished → a′ < run d a .run .tries → run d a′ .run .ending ≡ Short
   less-is-short d a a′ e lt =
-      chain-core match book d d (le-refl d) records .0 .short (opened positions end (begun a t))
+      chain-core rules book d d (le-refl d) records .0 .short (opened positions end (begun a t))
       (run d a .run .tries) a′ e (spent-is-tries d a) lt .0
 
   pub one-less-is-short : (d a : ℕ) → run d a .run .ending ≡ Finished → 1 ≤ run d a .run .tries → run d (run d a .run .tries - 1) .run .ending ≡ Short
   one-less-is-short d a e some = less-is-short d a (run d a .run .tries - 1) e (omega arith)
 
-  -- a match in the text, from the cursor on: its level stays sound, and no glyph before the cursor is touched
-  pub run-good : Fair match book → (d a : ℕ) → Sound (t .cursor) (length (t .glyphs)) (record { live = true; positions = positions; end = end }) → t .cursor ≤ length (t .glyphs)
+  -- a rules in the text, from the cursor on: its level stays sound, and no glyph before the cursor is touched
+  pub run-good : Fair rules book → (d a : ℕ) → Sound (t .cursor) (length (t .glyphs)) (record { live = true; positions = positions; end = end }) → t .cursor ≤ length (t .glyphs)
       → Good (t .cursor) (begun a t) (run d a)
   run-good fair d a s h =
-      chain-good match book fair d records (t .cursor) (begun a t)
+      chain-good rules book fair d records (t .cursor) (begun a t)
       (opened positions end (begun a t))
       (record { level = s; kept = record { before = refl; long = h } })

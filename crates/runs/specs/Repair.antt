@@ -2,7 +2,7 @@
 -- (01, "Records over a text": "Positions are then repaired as A does"; A's `apply_lookup`). Positions and end count from the text's first glyph.
 use mathlib.Core.Bool.{Bool, true, false, cond}
 use mathlib.Core.List.{List, [], _∷_, _++_, map}
-use Prim.Native.Nat.{ℕ, zero, suc, _+_, _-_, _≤_, min}
+use Prim.Native.Nat.{ℕ, zero, suc, _+_, _-_, _≤_, _<_, min}
 use lib.Dec.{leb, ltb}
 use lib.ListN.{length, getD, take, drop}
 
@@ -55,6 +55,11 @@ shrunkBy i n lv = record {
 unfoldable pub repaired : ℕ → ℕ → ℕ → Level → Level
 repaired i old new lv = cond (ltb old new) (grownBy i (new - old) lv) (cond (ltb new old) (shrunkBy i (old - new) lv) lv)
 
+-- ---- any way to repair: the record's place among the positions, the text's glyphs before and after, the level
+
+abbrev pub Repairing : Type 0
+Repairing = ℕ → ℕ → ℕ → Level → Level
+
 -- ---- what a level keeps to (Rises.antt shows that repair does)
 
 -- positions from `low` on, each after the one before it, none past the end
@@ -68,3 +73,8 @@ pub record Sound (low size : ℕ) (lv : Level) : Type 0 where
   pub rises : Rises low (lv .end) (lv .positions)
   pub begins : low ≤ lv .end
   pub within : lv .end ≤ size
+
+-- what a repair has to keep, after a lookup that left the glyphs before the record's position
+abbrev pub Mends : Repairing → Type 0
+Mends repair =
+    (low old : ℕ) (lv : Level) → Sound low old lv → (i : ℕ) → i < length (lv .positions) → (new : ℕ) → getD (lv .positions) i 0 ≤ new → Sound low new (repair i old new lv)

@@ -10,7 +10,7 @@ use borrow.Author.Tests.{leb-true, leb-false, ltb-true, ltb-false}
 use lib.Dec.{leb, ltb}
 use lib.ListN.{length, getD, take, drop, length-append, length-take, length-drop, length-map}
 use lib.Seq.{drop-nil, take-nil}
-use Rattle.runs.specs.Repair.{Level, mostPositions, following, gained, lost, grownBy, shrunkBy, raisedTo, heldBack, repaired, Rises, Sound, none, next}
+use Rattle.runs.specs.Repair.{Level, mostPositions, following, gained, lost, grownBy, shrunkBy, raisedTo, heldBack, repaired, Rises, Sound, Mends, none, next}
 
 pub rises-wider : {low end : ℕ} {ps : List ℕ} (low′ end′ : ℕ) → low′ ≤ low → end ≤ end′ → Rises low end ps → Rises low′ end′ ps
 rises-wider low′ end′ l e none = none
@@ -152,3 +152,6 @@ module _ {low old : ℕ} {lv : Level} (s : Sound low old lv) (i : ℕ) (h : i < 
           let q : old + (new - old) ≡ new = omega arith in
           rw q at (grown-sound (new - old))
       up false e = down (ltb new old) refl (ltb-false old new e)
+
+pub repaired-mends : Mends repaired
+repaired-mends low old lv s i h new k = repaired-sound s i h new k

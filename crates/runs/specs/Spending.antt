@@ -11,12 +11,13 @@ use native.Mathlib.Nat.{le-refl}
 use native.Mathlib.Decide.{decLt}
 use native.Mathlib.Omega.{arith}
 use lib.ListN.{length, getD}
-use Rattle.text.specs.Text.{Text, movedTo, replaced, isFull}
+use Rattle.glyph.specs.declared.Glyph.{Glyph}
+use Rattle.text.specs.Text.{Text, movedTo, replacedBy, isFull}
 use Rattle.book.specs.Book.{Record, Lookup, Kind1, Kind2, Kind3, Found, Is, None, lookupAt}
 use Rattle.runs.specs.declared.Ending.{Ending}
 use Rattle.runs.specs.declared.Ending.the-variants.{Finished, Short, Deep, Full}
-use Rattle.runs.specs.Repair.{Level, repaired}
-use Rattle.runs.specs.Run.{Run, Stage, Match, Matched, Unmatched, isOver, size, changed, endingAs, when, isAt, multiplied, opened, chainedBy, appliedBy, placeOf, isDue, arrived, spending, followedBy, triedBy, dueBy, stepBy, recordsBy, closed, chainRun, lookupRun}
+use Rattle.runs.specs.Repair.{Level, Repairing}
+use Rattle.runs.specs.Run.{Run, Stage, Act, Rules, Match, Matched, Unmatched, isOver, size, changed, endingAs, when, isAt, multipliedBy, opened, chainedBy, appliedBy, placeOf, isDue, arrived, spending, followedBy, triedBy, dueBy, stepBy, recordsBy, closed, acting, mending, chainRun, lookupRun}
 
 -- out of allowance
 abbrev pub Out : {X : Type 0} → (X → ℕ) → (X → Ending) → X → Type 0
@@ -139,14 +140,14 @@ full-core = record {
   short = λ x s a h q lt. absurd (full-not h);
 }
 
-multiplied-core : (ids : List ℕ) → RunCore (multiplied ids) (multiplied ids)
-multiplied-core ids =
+multiplied-core : (write : ℕ → Glyph → Glyph) (ids : List ℕ) → RunCore (multipliedBy write ids) (multipliedBy write ids)
+multiplied-core write ids =
     by-core left ends refilled (λ x. isFull (size x) (length ids)) (λ a x. refl)
-    (λ c x. cond c (endingAs Full x) (changed (replaced ids) x)) (λ c x. cond c (endingAs Full x) (changed (replaced ids) x)) go
+    (λ c x. cond c (endingAs Full x) (changed (replacedBy write ids) x)) (λ c x. cond c (endingAs Full x) (changed (replacedBy write ids) x)) go
   where
-    go : (c : Bool) → RunCore (λ x. cond c (endingAs Full x) (changed (replaced ids) x)) (λ x. cond c (endingAs Full x) (changed (replaced ids) x))
+    go : (c : Bool) → RunCore (λ x. cond c (endingAs Full x) (changed (replacedBy write ids) x)) (λ x. cond c (endingAs Full x) (changed (replacedBy write ids) x))
     go true = full-core
-    go false = changed-core (replaced ids)
+    go false = changed-core (replacedBy write ids)
 
 -- a test on the text alone
 tested-core : (c : Run → Bool) → ((a : ℕ) (x : Run) → c (refilled a x) ≡ c x) → (f : Run → Run) → RunCore f f → RunCore (λ x. when (c x) f x) (λ x. when (c x) f x)
@@ -165,12 +166,12 @@ chained-core g g′ G (Matched ps e) = record {
 }
 chained-core g g′ G Unmatched = nothing-core
 
-module _ (match : Lookup → Text → Match) (chain chain′ : List Record → Stage → Stage) (C : (rs : List Record) → LevelCore (chain rs) (chain′ rs)) where
-  applied-core : (found : Found) → RunCore (appliedBy match chain found) (appliedBy match chain′ found)
-  applied-core (Is (Kind1 props from to)) = tested-core (isAt from) (λ a x. refl) (changed (replaced (to ∷ []))) (changed-core (replaced (to ∷ [])))
-  applied-core (Is (Kind2 props from ids)) = tested-core (isAt from) (λ a x. refl) (multiplied ids) (multiplied-core ids)
+module _ (rules : Rules) (chain chain′ : List Record → Stage → Stage) (C : (rs : List Record) → LevelCore (chain rs) (chain′ rs)) where
+  applied-core : (found : Found) → RunCore (appliedBy rules chain found) (appliedBy rules chain′ found)
+  applied-core (Is (Kind1 props from to)) = tested-core (isAt from) (λ a x. refl) (changed (replacedBy (rules .write) (to ∷ []))) (changed-core (replacedBy (rules .write) (to ∷ [])))
+  applied-core (Is (Kind2 props from ids)) = tested-core (isAt from) (λ a x. refl) (multipliedBy (rules .write) ids) (multiplied-core (rules .write) ids)
   applied-core (Is (Kind3 props first back input ahead rs)) =
-      by-core left ends refilled (λ x. match (Kind3 props first back input ahead rs) (x .text)) (λ a x. refl)
+      by-core left ends refilled (λ x. rules .match (Kind3 props first back input ahead rs) (x .text)) (λ a x. refl)
       (λ m x. chainedBy (chain rs) m x) (λ m x. chainedBy (chain′ rs) m x) (chained-core (chain rs) (chain′ rs) (C rs))
   applied-core None = nothing-core
 
@@ -184,17 +185,17 @@ module _ (r : Record) (lv : Level) (t : Text) (n : ℕ) where
   abbrev handed : ℕ → Ending → Run
   handed l e = spending l (arrived r (stageAt 0 e) .run)
 
-  abbrev dueAt : (ℕ → Run → Run) → ℕ → ℕ → Ending → Stage
+  abbrev dueAt : (ℕ → Act) → ℕ → ℕ → Ending → Stage
   dueAt f d l e = triedBy f d l r (arrived r (stageAt l e))
 
-  module _ (f f′ : ℕ → Run → Run) where
-    due-falls : (d l : ℕ) (e : Ending) → (1 ≤ d → RunCore (f (r .lookup)) (f′ (r .lookup))) → leftOf (dueAt f d l e) ≤ l
+  module _ (mend : ℕ → Repairing) (f f′ : ℕ → Run → Run) where
+    due-falls : (d l : ℕ) (e : Ending) → (1 ≤ d → RunCore (f (r .lookup)) (f′ (r .lookup))) → leftOf (dueAt (acting mend f) d l e) ≤ l
     unfolding triedBy
     due-falls d zero e F = le-refl 0
     due-falls zero (suc l) e F = le-refl (suc l)
     due-falls (suc d) (suc l) e F = omega (arith, F (omega arith) .falls (handed l e))
 
-    due-sticky : (d l : ℕ) (e : Ending) → (1 ≤ d → RunCore (f (r .lookup)) (f′ (r .lookup))) → endOf (dueAt f d l e) ≡ Finished → e ≡ Finished
+    due-sticky : (d l : ℕ) (e : Ending) → (1 ≤ d → RunCore (f (r .lookup)) (f′ (r .lookup))) → endOf (dueAt (acting mend f) d l e) ≡ Finished → e ≡ Finished
     unfolding triedBy
     due-sticky d zero e F h = absurd (short-not h)
     due-sticky zero (suc l) e F h = absurd (deep-not h)
@@ -203,15 +204,15 @@ module _ (r : Record) (lv : Level) (t : Text) (n : ℕ) where
     -- the tried record: both depths are positive, and the allowance too
     tried-enough : (d d′ l s a : ℕ) (e : Ending) → RunCore (f (r .lookup)) (f′ (r .lookup)) → ends (f (r .lookup) (handed l e)) ≡ Finished
         → left (f (r .lookup) (handed l e)) + s ≡ suc l
-        → dueAt f′ (suc d′) (a + s) e ≡ refilledOf a (dueAt f (suc d) (suc l) e)
+        → dueAt (acting mend f′) (suc d′) (a + s) e ≡ refilledOf a (dueAt (acting mend f) (suc d) (suc l) e)
     unfolding triedBy
     tried-enough d d′ l zero a e F h q = let z : ⊥ = omega (arith, F .falls (handed l e)) in absurd z
     tried-enough d d′ l (suc s) a e F h q =
         let i : a + suc s ≡ suc (a + s) = omega arith in
-        rw i (ap (λ (y : Run). followedBy r (arrived r (stageAt 0 e)) y) (F .enough (handed l e) s a h (omega arith)))
+        rw i (ap (λ (y : Run). followedBy (mend (r .lookup)) r (arrived r (stageAt 0 e)) y) (F .enough (handed l e) s a h (omega arith)))
 
     due-enough : (d d′ l s a : ℕ) (e : Ending) → d ≤ d′ → (1 ≤ d → RunCore (f (r .lookup)) (f′ (r .lookup)))
-        → endOf (dueAt f d l e) ≡ Finished → leftOf (dueAt f d l e) + s ≡ l → dueAt f′ d′ (a + s) e ≡ refilledOf a (dueAt f d l e)
+        → endOf (dueAt (acting mend f) d l e) ≡ Finished → leftOf (dueAt (acting mend f) d l e) + s ≡ l → dueAt (acting mend f′) d′ (a + s) e ≡ refilledOf a (dueAt (acting mend f) d l e)
     unfolding triedBy
     due-enough d d′ zero s a e le F h q = absurd (short-not h)
     due-enough zero d′ (suc l) s a e le F h q = absurd (deep-not h)
@@ -219,14 +220,14 @@ module _ (r : Record) (lv : Level) (t : Text) (n : ℕ) where
     due-enough (suc d) (suc d′) (suc l) s a e le F h q = tried-enough d d′ l s a e (F (omega arith)) h q
 
     tried-short : (d d′ l s a : ℕ) (e : Ending) → RunCore (f (r .lookup)) (f′ (r .lookup)) → ends (f (r .lookup) (handed l e)) ≡ Finished
-        → left (f (r .lookup) (handed l e)) + s ≡ suc l → a < s → Out leftOf endOf (dueAt f′ (suc d′) a e)
+        → left (f (r .lookup) (handed l e)) + s ≡ suc l → a < s → Out leftOf endOf (dueAt (acting mend f′) (suc d′) a e)
     unfolding triedBy
     tried-short d d′ l s zero e F h q lt = (refl, refl)
     tried-short d d′ l zero (suc a) e F h q lt = let z : ⊥ = omega arith in absurd z
     tried-short d d′ l (suc s) (suc a) e F h q lt = F .short (handed l e) s a h (omega arith) (omega arith)
 
     due-short : (d d′ l s a : ℕ) (e : Ending) → d ≤ d′ → (1 ≤ d → RunCore (f (r .lookup)) (f′ (r .lookup)))
-        → endOf (dueAt f d l e) ≡ Finished → leftOf (dueAt f d l e) + s ≡ l → a < s → Out leftOf endOf (dueAt f′ d′ a e)
+        → endOf (dueAt (acting mend f) d l e) ≡ Finished → leftOf (dueAt (acting mend f) d l e) + s ≡ l → a < s → Out leftOf endOf (dueAt (acting mend f′) d′ a e)
     unfolding triedBy
     due-short d d′ zero s a e le F h q lt = absurd (short-not h)
     due-short zero d′ (suc l) s a e le F h q lt = absurd (deep-not h)
@@ -234,44 +235,44 @@ module _ (r : Record) (lv : Level) (t : Text) (n : ℕ) where
     due-short (suc d) (suc d′) (suc l) s a e le F h q lt = tried-short d d′ l s a e (F (omega arith)) h q lt
 
 -- a due record at allowance 0 is Short, whatever the lookups do
-pub due-out : (f : ℕ → Run → Run) (d : ℕ) (r : Record) (v : Stage) → leftOf v ≡ 0 → Out leftOf endOf (dueBy f d r v)
+pub due-out : (f : ℕ → Act) (d : ℕ) (r : Record) (v : Stage) → leftOf v ≡ 0 → Out leftOf endOf (dueBy f d r v)
 unfolding triedBy
 due-out f d r v o = subst (λ (l : ℕ). Out leftOf endOf (triedBy f d l r (arrived r v))) (sym o) (refl, o)
 
 -- ---- the records of a level
 
-pub step-stays : (f : ℕ → Run → Run) (d : ℕ) (r : Record) → Stays leftOf endOf (stepBy f d r)
+pub step-stays : (f : ℕ → Act) (d : ℕ) (r : Record) → Stays leftOf endOf (stepBy f d r)
 step-stays f d r v o = by (isDue r v)
   where
     by : (c : Bool) → Out leftOf endOf (when c (dueBy f d r) v)
     by true = due-out f d r v (o .1)
     by false = o
 
-pub records-stays : (f : ℕ → Run → Run) (d : ℕ) (rs : List Record) → Stays leftOf endOf (recordsBy f d rs)
+pub records-stays : (f : ℕ → Act) (d : ℕ) (rs : List Record) → Stays leftOf endOf (recordsBy f d rs)
 unfolding recordsBy
 records-stays f d [] v o = o
 records-stays f d (r ∷ rs) v o = records-stays f d rs (stepBy f d r v) (step-stays f d r v o)
 
-module _ (f f′ : ℕ → Run → Run) (d d′ : ℕ) (le : d ≤ d′) (F : 1 ≤ d → (k : ℕ) → RunCore (f k) (f′ k)) where
-  due-core : (r : Record) → StageCore (dueBy f d r) (dueBy f′ d′ r)
+module _ (mend : ℕ → Repairing) (f f′ : ℕ → Run → Run) (d d′ : ℕ) (le : d ≤ d′) (F : 1 ≤ d → (k : ℕ) → RunCore (f k) (f′ k)) where
+  due-core : (r : Record) → StageCore (dueBy (acting mend f) d r) (dueBy (acting mend f′) d′ r)
   due-core r = record {
-    falls = λ v. due-falls r (v .level) (v .run .text) (v .run .tries) f f′ d (leftOf v) (endOf v) (λ h. F h (r .lookup));
-    sticky = λ v. due-sticky r (v .level) (v .run .text) (v .run .tries) f f′ d (leftOf v) (endOf v) (λ h. F h (r .lookup));
-    enough = λ v s a. due-enough r (v .level) (v .run .text) (v .run .tries) f f′ d d′ (leftOf v) s a (endOf v) le (λ h. F h (r .lookup));
-    short = λ v s a. due-short r (v .level) (v .run .text) (v .run .tries) f f′ d d′ (leftOf v) s a (endOf v) le (λ h. F h (r .lookup));
+    falls = λ v. due-falls r (v .level) (v .run .text) (v .run .tries) mend f f′ d (leftOf v) (endOf v) (λ h. F h (r .lookup));
+    sticky = λ v. due-sticky r (v .level) (v .run .text) (v .run .tries) mend f f′ d (leftOf v) (endOf v) (λ h. F h (r .lookup));
+    enough = λ v s a. due-enough r (v .level) (v .run .text) (v .run .tries) mend f f′ d d′ (leftOf v) s a (endOf v) le (λ h. F h (r .lookup));
+    short = λ v s a. due-short r (v .level) (v .run .text) (v .run .tries) mend f f′ d d′ (leftOf v) s a (endOf v) le (λ h. F h (r .lookup));
   }
 
-  step-core : (r : Record) → StageCore (stepBy f d r) (stepBy f′ d′ r)
+  step-core : (r : Record) → StageCore (stepBy (acting mend f) d r) (stepBy (acting mend f′) d′ r)
   step-core r =
-      by-core leftOf endOf refilledOf (isDue r) (λ a v. refl) (λ c. when c (dueBy f d r)) (λ c. when c (dueBy f′ d′ r))
-      (λ c. when-core leftOf endOf refilledOf c (dueBy f d r) (dueBy f′ d′ r) (due-core r))
+      by-core leftOf endOf refilledOf (isDue r) (λ a v. refl) (λ c. when c (dueBy (acting mend f) d r)) (λ c. when c (dueBy (acting mend f′) d′ r))
+      (λ c. when-core leftOf endOf refilledOf c (dueBy (acting mend f) d r) (dueBy (acting mend f′) d′ r) (due-core r))
 
-  records-core : (rs : List Record) → LevelCore (recordsBy f d rs) (recordsBy f′ d′ rs)
+  records-core : (rs : List Record) → LevelCore (recordsBy (acting mend f) d rs) (recordsBy (acting mend f′) d′ rs)
   unfolding recordsBy
-  records-core [] = (silent leftOf endOf refilledOf (λ v. v) (λ v. refl) (λ v. refl) (λ a v. refl), records-stays f′ d′ [])
+  records-core [] = (silent leftOf endOf refilledOf (λ v. v) (λ v. refl) (λ v. refl) (λ a v. refl), records-stays (acting mend f′) d′ [])
   records-core (r ∷ rs) =
       let q = records-core rs in
-      (then-core leftOf endOf refilledOf _ _ _ _ (step-core r) (q .0) (q .1), records-stays f′ d′ (r ∷ rs))
+      (then-core leftOf endOf refilledOf _ _ _ _ (step-core r) (q .0) (q .1), records-stays (acting mend f′) d′ (r ∷ rs))
 
 -- ---- a level's end
 
@@ -299,12 +300,12 @@ closing : (g g′ : Stage → Stage) → LevelCore g g′ → LevelCore (λ v. c
 closing g g′ G = (then-core leftOf endOf refilledOf g g′ closed closed (G .0) closed-core closed-stays, λ v o. closed-stays (g′ v) (G .1 v o))
 
 -- a chain at depth d, and at d′ ≥ d
-module _ (match : Lookup → Text → Match) (book : List Lookup) where
-  pub chain-core : (d d′ : ℕ) → d ≤ d′ → (rs : List Record) → LevelCore (chainRun match book d rs) (chainRun match book d′ rs)
+module _ (rules : Rules) (book : List Lookup) where
+  pub chain-core : (d d′ : ℕ) → d ≤ d′ → (rs : List Record) → LevelCore (chainRun rules book d rs) (chainRun rules book d′ rs)
   unfolding chainRun
-  chain-core zero zero le rs = closing _ _ (records-core _ _ 0 0 le (λ h. let z : ⊥ = omega arith in absurd z) rs)
-  chain-core zero (suc d′) le rs = closing _ _ (records-core _ _ 0 (suc d′) le (λ h. let z : ⊥ = omega arith in absurd z) rs)
+  chain-core zero zero le rs = closing _ _ (records-core (mending rules book) _ _ 0 0 le (λ h. let z : ⊥ = omega arith in absurd z) rs)
+  chain-core zero (suc d′) le rs = closing _ _ (records-core (mending rules book) _ _ 0 (suc d′) le (λ h. let z : ⊥ = omega arith in absurd z) rs)
   chain-core (suc d) zero le rs = let z : ⊥ = omega arith in absurd z
   chain-core (suc d) (suc d′) le rs =
-      closing _ _ (records-core _ _ (suc d) (suc d′) le
-      (λ h k. applied-core match (chainRun match book d) (chainRun match book d′) (chain-core d d′ (omega arith)) (lookupAt k book)) rs)
+      closing _ _ (records-core (mending rules book) _ _ (suc d) (suc d′) le
+      (λ h k. applied-core rules (chainRun rules book d) (chainRun rules book d′) (chain-core d d′ (omega arith)) (lookupAt k book)) rs)

@@ -8,11 +8,12 @@ use mathlib.Core.Logic.{_↔_, _⊎_, ⊎-elim, inl, inr}
 use Prim.Native.Nat.{ℕ, zero, suc}
 use native.Mathlib.Omega.{arith}
 use lib.ListN.{length}
-use Rattle.text.specs.Text.{Text, movedTo, replaced, isFull}
+use Rattle.glyph.specs.declared.Glyph.{Glyph}
+use Rattle.text.specs.Text.{Text, movedTo, replacedBy, isFull}
 use Rattle.book.specs.Book.{Record, Lookup, Kind1, Kind2, Kind3, Found, Is, None, lookupAt}
 use Rattle.runs.specs.declared.Ending.{Ending}
 use Rattle.runs.specs.declared.Ending.the-variants.{Short, Deep, Full}
-use Rattle.runs.specs.Run.{Run, Stage, Match, Matched, Unmatched, isOver, size, changed, endingAs, when, isAt, multiplied, opened, begun, chainedBy, appliedBy, isDue, arrived, spending, triedBy, dueBy, stepBy, recordsBy, closed, chainRun, lookupRun, runOn}
+use Rattle.runs.specs.Run.{Run, Stage, Act, Rules, Match, Matched, Unmatched, isOver, size, changed, endingAs, when, isAt, multipliedBy, opened, begun, chainedBy, appliedBy, isDue, arrived, spending, triedBy, dueBy, stepBy, recordsBy, closed, acting, mending, chainRun, lookupRun, runOn}
 use Rattle.runs.specs.Over.{over-stays}
 use Rattle.runs.specs.Met.{MetMatch}
 
@@ -26,29 +27,29 @@ module _ (atNone : Type 0) (wide : List ℕ → Run → Type 0) where
   MeetsTry met (suc depth) (suc left) r v = met (r .lookup) (spending left (v .run))
 
   -- at one of the records, as the ones before it left the level
-  unfoldable pub MeetsRecords : (ℕ → Run → Type 0) → (ℕ → Run → Run) → ℕ → List Record → Stage → Type 0
-  MeetsRecords met lookup depth [] v = ⊥
-  MeetsRecords met lookup depth (r ∷ rs) v =
-      ((isDue r v ≡ true) × MeetsTry met depth (v .run .left) r (arrived r v)) ⊎ MeetsRecords met lookup depth rs (stepBy lookup depth r v)
+  unfoldable pub MeetsRecords : (ℕ → Run → Type 0) → (ℕ → Act) → ℕ → List Record → Stage → Type 0
+  MeetsRecords met acts depth [] v = ⊥
+  MeetsRecords met acts depth (r ∷ rs) v =
+      ((isDue r v ≡ true) × MeetsTry met depth (v .run .left) r (arrived r v)) ⊎ MeetsRecords met acts depth rs (stepBy acts depth r v)
 
-  abbrev pub MeetsLookup : (Lookup → Text → Match) → (List Record → Stage → Type 0) → Found → Run → Type 0
-  MeetsLookup match met (Is (Kind1 props from to)) x = ⊥
-  MeetsLookup match met (Is (Kind2 props from ids)) x = (isAt from x ≡ true) × wide ids x
-  MeetsLookup match met (Is (Kind3 props first back input ahead records)) x =
-      MetMatch (met records) (match (Kind3 props first back input ahead records) (x .text)) x
-  MeetsLookup match met None x = ⊥
+  abbrev pub MeetsLookup : Rules → (List Record → Stage → Type 0) → Found → Run → Type 0
+  MeetsLookup rules met (Is (Kind1 props from to)) x = ⊥
+  MeetsLookup rules met (Is (Kind2 props from ids)) x = (isAt from x ≡ true) × wide ids x
+  MeetsLookup rules met (Is (Kind3 props first back input ahead records)) x =
+      MetMatch (met records) (rules .match (Kind3 props first back input ahead records) (x .text)) x
+  MeetsLookup rules met None x = ⊥
 
   -- at a record of the level, or of a level below it
-  unfoldable pub Meets : (Lookup → Text → Match) → List Lookup → ℕ → List Record → Stage → Type 0
-  Meets match book zero rs v = MeetsRecords (λ k x. ⊥) (λ k x. x) zero rs v
-  Meets match book (suc d) rs v = MeetsRecords (λ k. MeetsLookup match (Meets match book d) (lookupAt k book)) (lookupRun match book d) (suc d) rs v
+  unfoldable pub Meets : Rules → List Lookup → ℕ → List Record → Stage → Type 0
+  Meets rules book zero rs v = MeetsRecords (λ k x. ⊥) (acting (mending rules book) (λ k x. x)) zero rs v
+  Meets rules book (suc d) rs v = MeetsRecords (λ k. MeetsLookup rules (Meets rules book d) (lookupAt k book)) (acting (mending rules book) (lookupRun rules book d)) (suc d) rs v
 
 -- a due record met depth 0 with allowance left
-abbrev pub MetDepth : (Lookup → Text → Match) → List Lookup → ℕ → List Record → Stage → Type 0
+abbrev pub MetDepth : Rules → List Lookup → ℕ → List Record → Stage → Type 0
 MetDepth = Meets (Unit {0}) (λ ids x. ⊥)
 
 -- a lookup of kind 2 that applies would have passed the limit
-abbrev pub MetLimit : (Lookup → Text → Match) → List Lookup → ℕ → List Record → Stage → Type 0
+abbrev pub MetLimit : Rules → List Lookup → ℕ → List Record → Stage → Type 0
 MetLimit = Meets ⊥ (λ ids x. isFull (size x) (length ids) ≡ true)
 
 -- ---- the ending E tells of it
@@ -65,7 +66,7 @@ abbrev endOf : Stage → Ending
 endOf v = v .run .ending
 
 module _ (E : Ending) (over : isOver E ≡ true) (atNone : Type 0) (wide : List ℕ → Run → Type 0)
-    (short-not : Short ≡ E → ⊥) (deep : (Deep ≡ E) ↔ atNone) (full : (ids : List ℕ) → Tells E ends (multiplied ids) (wide ids)) where
+    (short-not : Short ≡ E → ⊥) (deep : (Deep ≡ E) ↔ atNone) (full : (write : ℕ → Glyph → Glyph) (ids : List ℕ) → Tells E ends (multipliedBy write ids) (wide ids)) where
   -- a test before a change that tells
   when-tells : (c : Run → Bool) (f : Run → Run) (met : Run → Type 0) → Tells E ends f met → Tells E ends (λ x. when (c x) f x) (λ x. (c x ≡ true) × met x)
   when-tells c f met F = record { only = λ x. by x (c x) refl; so = λ x m. then x (c x) (m .0) (m .1) }
@@ -85,24 +86,24 @@ module _ (E : Ending) (over : isOver E ≡ true) (atNone : Type 0) (wide : List 
   chained-tells g met G (Matched ps e) = record { only = λ x. G .only (opened ps e x); so = λ x. G .so (opened ps e x) }
   chained-tells g met G Unmatched = record { only = λ x h. inl h; so = λ x m. absurd m }
 
-  one-same : (from to : ℕ) (x : Run) → ends (when (isAt from x) (changed (replaced (to ∷ []))) x) ≡ ends x
-  one-same from to x = by (isAt from x)
+  one-same : (write : ℕ → Glyph → Glyph) (from to : ℕ) (x : Run) → ends (when (isAt from x) (changed (replacedBy write (to ∷ []))) x) ≡ ends x
+  one-same write from to x = by (isAt from x)
     where
-      by : (b : Bool) → ends (when b (changed (replaced (to ∷ []))) x) ≡ ends x
+      by : (b : Bool) → ends (when b (changed (replacedBy write (to ∷ []))) x) ≡ ends x
       by true = refl
       by false = refl
 
-  module _ (match : Lookup → Text → Match) (chain : List Record → Stage → Stage) (met : List Record → Stage → Type 0) (C : (rs : List Record) → Tells E endOf (chain rs) (met rs)) where
-    applied-tells : (found : Found) → Tells E ends (appliedBy match chain found) (MeetsLookup atNone wide match met found)
-    applied-tells (Is (Kind1 props from to)) = unchanged (λ x. when (isAt from x) (changed (replaced (to ∷ []))) x) (one-same from to)
-    applied-tells (Is (Kind2 props from ids)) = when-tells (isAt from) (multiplied ids) (wide ids) (full ids)
+  module _ (rules : Rules) (chain : List Record → Stage → Stage) (met : List Record → Stage → Type 0) (C : (rs : List Record) → Tells E endOf (chain rs) (met rs)) where
+    applied-tells : (found : Found) → Tells E ends (appliedBy rules chain found) (MeetsLookup atNone wide rules met found)
+    applied-tells (Is (Kind1 props from to)) = unchanged (λ x. when (isAt from x) (changed (replacedBy (rules .write) (to ∷ []))) x) (one-same (rules .write) from to)
+    applied-tells (Is (Kind2 props from ids)) = when-tells (isAt from) (multipliedBy (rules .write) ids) (wide ids) (full (rules .write) ids)
     applied-tells (Is (Kind3 props first back input ahead rs)) = record {
-      only = λ x. chained-tells (chain rs) (met rs) (C rs) (match (Kind3 props first back input ahead rs) (x .text)) .only x;
-      so = λ x. chained-tells (chain rs) (met rs) (C rs) (match (Kind3 props first back input ahead rs) (x .text)) .so x;
+      only = λ x. chained-tells (chain rs) (met rs) (C rs) (rules .match (Kind3 props first back input ahead rs) (x .text)) .only x;
+      so = λ x. chained-tells (chain rs) (met rs) (C rs) (rules .match (Kind3 props first back input ahead rs) (x .text)) .so x;
     }
     applied-tells None = record { only = λ x h. inl h; so = λ x m. absurd m }
 
-  module _ (f : ℕ → Run → Run) (met : ℕ → Run → Type 0) (F : (k : ℕ) → Tells E ends (f k) (met k)) where
+  module _ (f : ℕ → Act) (met : ℕ → Run → Type 0) (F : (k : ℕ) → Tells E ends (f k .does) (met k)) where
     tried-only : (d l : ℕ) (r : Record) (v : Stage) → endOf (triedBy f d l r v) ≡ E → (endOf v ≡ E) ⊎ MeetsTry atNone wide met d l r v
     unfolding triedBy
     tried-only d zero r v h = absurd (short-not h)
@@ -149,41 +150,41 @@ module _ (E : Ending) (over : isOver E ≡ true) (atNone : Type 0) (wide : List 
   closing-tells : (g : Stage → Stage) (met : Stage → Type 0) → Tells E endOf g met → Tells E endOf (λ v. closed (g v)) met
   closing-tells g met G = record { only = λ v h. G .only v (sym (closed-same (g v)) ∙ h); so = λ v m. closed-same (g v) ∙ G .so v m }
 
-  chain-tells : (match : Lookup → Text → Match) (book : List Lookup) (d : ℕ) (rs : List Record) → Tells E endOf (chainRun match book d rs) (Meets atNone wide match book d rs)
+  chain-tells : (rules : Rules) (book : List Lookup) (d : ℕ) (rs : List Record) → Tells E endOf (chainRun rules book d rs) (Meets atNone wide rules book d rs)
   unfolding chainRun Meets
-  chain-tells match book zero rs =
-      closing-tells _ _ (records-tells (λ k x. x) (λ k x. ⊥) (λ k. record { only = λ x h. inl h; so = λ x m. absurd m }) zero rs)
-  chain-tells match book (suc d) rs =
-      closing-tells _ _ (records-tells (lookupRun match book d) (λ k. MeetsLookup atNone wide match (Meets atNone wide match book d) (lookupAt k book))
-      (λ k. applied-tells match (chainRun match book d) (Meets atNone wide match book d) (chain-tells match book d) (lookupAt k book)) (suc d) rs)
+  chain-tells rules book zero rs =
+      closing-tells _ _ (records-tells (acting (mending rules book) (λ k x. x)) (λ k x. ⊥) (λ k. record { only = λ x h. inl h; so = λ x m. absurd m }) zero rs)
+  chain-tells rules book (suc d) rs =
+      closing-tells _ _ (records-tells (acting (mending rules book) (lookupRun rules book d)) (λ k. MeetsLookup atNone wide rules (Meets atNone wide rules book d) (lookupAt k book))
+      (λ k. applied-tells rules (chainRun rules book d) (Meets atNone wide rules book d) (chain-tells rules book d) (lookupAt k book)) (suc d) rs)
 
 -- ---- Deep and Full
 
-deep-many : (ids : List ℕ) → Tells Deep ends (multiplied ids) (λ x. ⊥)
-deep-many ids = record { only = λ x. by x (isFull (size x) (length ids)); so = λ x m. absurd m }
+deep-many : (write : ℕ → Glyph → Glyph) (ids : List ℕ) → Tells Deep ends (multipliedBy write ids) (λ x. ⊥)
+deep-many write ids = record { only = λ x. by x (isFull (size x) (length ids)); so = λ x m. absurd m }
   where
-    by : (x : Run) (b : Bool) → ends (cond b (endingAs Full x) (changed (replaced ids) x)) ≡ Deep → (ends x ≡ Deep) ⊎ ⊥
+    by : (x : Run) (b : Bool) → ends (cond b (endingAs Full x) (changed (replacedBy write ids) x)) ≡ Deep → (ends x ≡ Deep) ⊎ ⊥
     by x true h = let z : _≡_ {A = ℕ} 0 1 = cc in absurd (omega arith)
     by x false h = inl h
 
-full-many : (ids : List ℕ) → Tells Full ends (multiplied ids) (λ x. isFull (size x) (length ids) ≡ true)
-full-many ids = record { only = λ x. by x (isFull (size x) (length ids)) refl; so = λ x m. rw m }
+full-many : (write : ℕ → Glyph → Glyph) (ids : List ℕ) → Tells Full ends (multipliedBy write ids) (λ x. isFull (size x) (length ids) ≡ true)
+full-many write ids = record { only = λ x. by x (isFull (size x) (length ids)) refl; so = λ x m. rw m }
   where
-    by : (x : Run) (b : Bool) → isFull (size x) (length ids) ≡ b → ends (cond b (endingAs Full x) (changed (replaced ids) x)) ≡ Full → (ends x ≡ Full) ⊎ (isFull (size x) (length ids) ≡ true)
+    by : (x : Run) (b : Bool) → isFull (size x) (length ids) ≡ b → ends (cond b (endingAs Full x) (changed (replacedBy write ids) x)) ≡ Full → (ends x ≡ Full) ⊎ (isFull (size x) (length ids) ≡ true)
     by x true e h = inr e
     by x false e h = inl h
 
-module _ (match : Lookup → Text → Match) (book : List Lookup) (records : List Record) (positions : List ℕ) (end : ℕ) (t : Text) where
-  pub deep-exactly : (d a : ℕ) → (runOn match book d records positions end a t .run .ending ≡ Deep) ↔ MetDepth match book d records (opened positions end (begun a t))
+module _ (rules : Rules) (book : List Lookup) (records : List Record) (positions : List ℕ) (end : ℕ) (t : Text) where
+  pub deep-exactly : (d a : ℕ) → (runOn rules book d records positions end a t .run .ending ≡ Deep) ↔ MetDepth rules book d records (opened positions end (begun a t))
   deep-exactly d a =
-      let c = chain-tells Deep refl (Unit {0}) (λ ids x. ⊥) (λ e. let z : _≡_ {A = ℕ} 0 1 = cc in omega arith) (λ e. tt, λ u. refl) deep-many match book d records in (
+      let c = chain-tells Deep refl (Unit {0}) (λ ids x. ⊥) (λ e. let z : _≡_ {A = ℕ} 0 1 = cc in omega arith) (λ e. tt, λ u. refl) deep-many rules book d records in (
         λ e. ⊎-elim (λ h. let z : _≡_ {A = ℕ} 0 1 = cc in absurd (omega arith)) (λ m. m) (c .only (opened positions end (begun a t)) e),
         c .so (opened positions end (begun a t)),
       )
 
-  pub full-exactly : (d a : ℕ) → (runOn match book d records positions end a t .run .ending ≡ Full) ↔ MetLimit match book d records (opened positions end (begun a t))
+  pub full-exactly : (d a : ℕ) → (runOn rules book d records positions end a t .run .ending ≡ Full) ↔ MetLimit rules book d records (opened positions end (begun a t))
   full-exactly d a =
-      let c = chain-tells Full refl ⊥ (λ ids x. isFull (size x) (length ids) ≡ true) (λ e. let z : _≡_ {A = ℕ} 0 1 = cc in omega arith) (λ e. let z : _≡_ {A = ℕ} 0 1 = cc in absurd (omega arith), λ z. absurd z) full-many match book d records in (
+      let c = chain-tells Full refl ⊥ (λ ids x. isFull (size x) (length ids) ≡ true) (λ e. let z : _≡_ {A = ℕ} 0 1 = cc in omega arith) (λ e. let z : _≡_ {A = ℕ} 0 1 = cc in absurd (omega arith), λ z. absurd z) full-many rules book d records in (
         λ e. ⊎-elim (λ h. let z : _≡_ {A = ℕ} 0 1 = cc in absurd (omega arith)) (λ m. m) (c .only (opened positions end (begun a t)) e),
         c .so (opened positions end (begun a t)),
       )

@@ -7,11 +7,12 @@ use mathlib.Core.Logic.{_↔_, _⊎_, ⊎-elim, inl, inr}
 use Prim.Native.Nat.{ℕ, zero, suc, _<_, _≤_, _+_, _-_}
 use native.Mathlib.Omega.{arith}
 use lib.ListN.{length}
-use Rattle.text.specs.Text.{Text, movedTo, replaced, isFull}
+use Rattle.glyph.specs.declared.Glyph.{Glyph}
+use Rattle.text.specs.Text.{movedTo, replacedBy, isFull}
 use Rattle.book.specs.Book.{Record, Lookup, Kind1, Kind2, Kind3, Found, Is, None, lookupAt}
 use Rattle.runs.specs.declared.Ending.{Ending}
 use Rattle.runs.specs.declared.Ending.the-variants.{Finished, Short, Deep, Full}
-use Rattle.runs.specs.Run.{Run, Stage, Match, Matched, Unmatched, isOver, size, changed, endingAs, when, isAt, multiplied, opened, chainedBy, appliedBy, isDue, arrived, spending, triedBy, dueBy, stepBy, recordsBy, closed, chainRun, lookupRun}
+use Rattle.runs.specs.Run.{Run, Stage, Act, Rules, Match, Matched, Unmatched, isOver, size, changed, endingAs, when, isAt, multipliedBy, opened, chainedBy, appliedBy, isDue, arrived, spending, triedBy, dueBy, stepBy, recordsBy, closed, acting, mending, chainRun, lookupRun}
 use Rattle.runs.specs.Spending.{Out, Stays, left, ends, leftOf, endOf, due-out, records-stays, closed-stays, chain-core}
 use Rattle.runs.specs.Met.{MetTry, MetRecords, MetMatch, MetLookup, Met}
 
@@ -33,10 +34,10 @@ when-adds c f F x = by (c x)
     by true = F x
     by false = refl
 
-multiplied-adds : (ids : List ℕ) → Adds (multiplied ids)
-multiplied-adds ids x = by (isFull (size x) (length ids))
+multiplied-adds : (write : ℕ → Glyph → Glyph) (ids : List ℕ) → Adds (multipliedBy write ids)
+multiplied-adds write ids x = by (isFull (size x) (length ids))
   where
-    by : (b : Bool) → sumOf (cond b (endingAs Full x) (changed (replaced ids) x)) ≡ sumOf x
+    by : (b : Bool) → sumOf (cond b (endingAs Full x) (changed (replacedBy write ids) x)) ≡ sumOf x
     by true = refl
     by false = refl
 
@@ -44,14 +45,14 @@ chained-adds : (g : Stage → Stage) → AddsUp g → (m : Match) → Adds (chai
 chained-adds g G (Matched ps e) x = G (opened ps e x)
 chained-adds g G Unmatched x = refl
 
-applied-adds : (match : Lookup → Text → Match) (chain : List Record → Stage → Stage) → ((rs : List Record) → AddsUp (chain rs)) → (found : Found) → Adds (appliedBy match chain found)
-applied-adds match chain C (Is (Kind1 props from to)) x = when-adds (isAt from) (changed (replaced (to ∷ []))) (λ y. refl) x
-applied-adds match chain C (Is (Kind2 props from ids)) x = when-adds (isAt from) (multiplied ids) (multiplied-adds ids) x
-applied-adds match chain C (Is (Kind3 props first back input ahead rs)) x =
-    chained-adds (chain rs) (C rs) (match (Kind3 props first back input ahead rs) (x .text)) x
-applied-adds match chain C None x = refl
+applied-adds : (rules : Rules) (chain : List Record → Stage → Stage) → ((rs : List Record) → AddsUp (chain rs)) → (found : Found) → Adds (appliedBy rules chain found)
+applied-adds rules chain C (Is (Kind1 props from to)) x = when-adds (isAt from) (changed (replacedBy (rules .write) (to ∷ []))) (λ y. refl) x
+applied-adds rules chain C (Is (Kind2 props from ids)) x = when-adds (isAt from) (multipliedBy (rules .write) ids) (multiplied-adds (rules .write) ids) x
+applied-adds rules chain C (Is (Kind3 props first back input ahead rs)) x =
+    chained-adds (chain rs) (C rs) (rules .match (Kind3 props first back input ahead rs) (x .text)) x
+applied-adds rules chain C None x = refl
 
-module _ (f : ℕ → Run → Run) (F : (k : ℕ) → Adds (f k)) where
+module _ (f : ℕ → Act) (F : (k : ℕ) → Adds (f k .does)) where
   tried-adds : (d l : ℕ) (r : Record) (v : Stage) → v .run .left ≡ l → sumOf (triedBy f d l r v .run) ≡ sumOf (v .run)
   unfolding triedBy
   tried-adds d zero r v e = refl
@@ -79,14 +80,14 @@ closed-adds v = by (not (isOver (v .run .ending)))
     by false = refl
 
 -- what is left and what was tried: always the same sum
-pub chain-adds : (match : Lookup → Text → Match) (book : List Lookup) (d : ℕ) (rs : List Record) → AddsUp (chainRun match book d rs)
+pub chain-adds : (rules : Rules) (book : List Lookup) (d : ℕ) (rs : List Record) → AddsUp (chainRun rules book d rs)
 unfolding chainRun
-chain-adds match book zero rs v = closed-adds _ ∙ records-adds (λ k x. x) (λ k x. refl) zero rs v
-chain-adds match book (suc d) rs v =
-    closed-adds _ ∙ records-adds (lookupRun match book d) (λ k. applied-adds match (chainRun match book d) (chain-adds match book d) (lookupAt k book)) (suc d) rs v
+chain-adds rules book zero rs v = closed-adds _ ∙ records-adds (acting (mending rules book) (λ k x. x)) (λ k x. refl) zero rs v
+chain-adds rules book (suc d) rs v =
+    closed-adds _ ∙ records-adds (acting (mending rules book) (lookupRun rules book d)) (λ k. applied-adds rules (chainRun rules book d) (chain-adds rules book d) (lookupAt k book)) (suc d) rs v
 
-pub lookup-adds : (match : Lookup → Text → Match) (book : List Lookup) (d k : ℕ) → Adds (lookupRun match book d k)
-lookup-adds match book d k = applied-adds match (chainRun match book d) (chain-adds match book d) (lookupAt k book)
+pub lookup-adds : (rules : Rules) (book : List Lookup) (d k : ℕ) → Adds (lookupRun rules book d k)
+lookup-adds rules book d k = applied-adds rules (chainRun rules book d) (chain-adds rules book d) (lookupAt k book)
 
 -- ---- a due record that meets allowance 0
 
@@ -104,10 +105,10 @@ full-short e = let z : _≡_ {A = ℕ} 0 1 = cc in omega arith
 finished-short : Finished ≡ Short → ⊥
 finished-short e = let z : _≡_ {A = ℕ} 0 1 = cc in omega arith
 
-multiplied-told : (ids : List ℕ) (x : Run) → ends (multiplied ids x) ≡ Short → ends x ≡ Short
-multiplied-told ids x = by (isFull (size x) (length ids))
+multiplied-told : (write : ℕ → Glyph → Glyph) (ids : List ℕ) (x : Run) → ends (multipliedBy write ids x) ≡ Short → ends x ≡ Short
+multiplied-told write ids x = by (isFull (size x) (length ids))
   where
-    by : (b : Bool) → ends (cond b (endingAs Full x) (changed (replaced ids) x)) ≡ Short → ends x ≡ Short
+    by : (b : Bool) → ends (cond b (endingAs Full x) (changed (replacedBy write ids) x)) ≡ Short → ends x ≡ Short
     by true h = absurd (full-short h)
     by false h = h
 
@@ -122,17 +123,17 @@ chained-told : (g : Stage → Stage) (met : Stage → Type 0) → Told leftOf en
 chained-told g met G (Matched ps e) = record { only = λ x. G .only (opened ps e x); so = λ x. G .so (opened ps e x) }
 chained-told g met G Unmatched = record { only = λ x h. inl h; so = λ x m. absurd m }
 
-module _ (match : Lookup → Text → Match) (chain : List Record → Stage → Stage) (met : List Record → Stage → Type 0) (C : (rs : List Record) → Told leftOf endOf (chain rs) (met rs)) where
-  applied-told : (found : Found) → Told left ends (appliedBy match chain found) (MetLookup match met found)
-  applied-told (Is (Kind1 props from to)) = record { only = λ x h. inl (when-told (isAt from) (changed (replaced (to ∷ []))) (λ y k. k) x h); so = λ x m. absurd m }
-  applied-told (Is (Kind2 props from ids)) = record { only = λ x h. inl (when-told (isAt from) (multiplied ids) (multiplied-told ids) x h); so = λ x m. absurd m }
+module _ (rules : Rules) (chain : List Record → Stage → Stage) (met : List Record → Stage → Type 0) (C : (rs : List Record) → Told leftOf endOf (chain rs) (met rs)) where
+  applied-told : (found : Found) → Told left ends (appliedBy rules chain found) (MetLookup rules met found)
+  applied-told (Is (Kind1 props from to)) = record { only = λ x h. inl (when-told (isAt from) (changed (replacedBy (rules .write) (to ∷ []))) (λ y k. k) x h); so = λ x m. absurd m }
+  applied-told (Is (Kind2 props from ids)) = record { only = λ x h. inl (when-told (isAt from) (multipliedBy (rules .write) ids) (multiplied-told (rules .write) ids) x h); so = λ x m. absurd m }
   applied-told (Is (Kind3 props first back input ahead rs)) = record {
-    only = λ x. chained-told (chain rs) (met rs) (C rs) (match (Kind3 props first back input ahead rs) (x .text)) .only x;
-    so = λ x. chained-told (chain rs) (met rs) (C rs) (match (Kind3 props first back input ahead rs) (x .text)) .so x;
+    only = λ x. chained-told (chain rs) (met rs) (C rs) (rules .match (Kind3 props first back input ahead rs) (x .text)) .only x;
+    so = λ x. chained-told (chain rs) (met rs) (C rs) (rules .match (Kind3 props first back input ahead rs) (x .text)) .so x;
   }
   applied-told None = record { only = λ x h. inl h; so = λ x m. absurd m }
 
-module _ (f : ℕ → Run → Run) (met : ℕ → Run → Type 0) (F : (k : ℕ) → Told left ends (f k) (met k)) where
+module _ (f : ℕ → Act) (met : ℕ → Run → Type 0) (F : (k : ℕ) → Told left ends (f k .does) (met k)) where
   tried-only : (d l : ℕ) (r : Record) (v : Stage) → endOf (triedBy f d l r v) ≡ Short → (endOf v ≡ Short) ⊎ MetTry met d l r v
   unfolding triedBy
   tried-only d zero r v h = inr tt
@@ -172,10 +173,10 @@ closing-told g met G = record { only = λ v h. G .only v (by v (not (isOver (g v
     by v true h = h
     by v false h = h
 
-pub chain-told : (match : Lookup → Text → Match) (book : List Lookup) (d : ℕ) (rs : List Record) → Told leftOf endOf (chainRun match book d rs) (Met match book d rs)
+pub chain-told : (rules : Rules) (book : List Lookup) (d : ℕ) (rs : List Record) → Told leftOf endOf (chainRun rules book d rs) (Met rules book d rs)
 unfolding chainRun Met
-chain-told match book zero rs =
-    closing-told _ _ (records-told (λ k x. x) (λ k x. ⊥) (λ k. record { only = λ x h. inl h; so = λ x m. absurd m }) zero rs)
-chain-told match book (suc d) rs =
-    closing-told _ _ (records-told (lookupRun match book d) (λ k. MetLookup match (Met match book d) (lookupAt k book))
-    (λ k. applied-told match (chainRun match book d) (Met match book d) (chain-told match book d) (lookupAt k book)) (suc d) rs)
+chain-told rules book zero rs =
+    closing-told _ _ (records-told (acting (mending rules book) (λ k x. x)) (λ k x. ⊥) (λ k. record { only = λ x h. inl h; so = λ x m. absurd m }) zero rs)
+chain-told rules book (suc d) rs =
+    closing-told _ _ (records-told (acting (mending rules book) (lookupRun rules book d)) (λ k. MetLookup rules (Met rules book d) (lookupAt k book))
+    (λ k. applied-told rules (chainRun rules book d) (Met rules book d) (chain-told rules book d) (lookupAt k book)) (suc d) rs)

@@ -13,7 +13,7 @@ use Rattle.bits.specs.Laws.{neither-left, neither-right}
 use Rattle.glyph.specs.declared.Glyph.{Glyph}
 use Rattle.glyph.specs.Glyph.{words, limit, glyphsOf, blank}
 use Rattle.text.specs.declared.Place.{Place}
-use Rattle.text.specs.Text.{Text, movedTo, written, copies, replaced, isFull, textOf, sizeOf, Fits, Holds, wrongLength, unfit, pastEnd}
+use Rattle.text.specs.Text.{Text, movedTo, copiesBy, replacedBy, isFull, textOf, sizeOf, Fits, Holds, wrongLength, unfit, pastEnd}
 use Rattle.text.specs.Laws.{sizes, text-before, text-at, text-from}
 
 -- a move changes no glyph
@@ -28,34 +28,34 @@ moved-twice p q t = refl
 pub moved-text : {done coming : List ℕ} {s : Place} (p : ℕ) (t : Text) → Holds done coming s (movedTo p t) → textOf done coming s .glyphs ≡ t .glyphs
 moved-text p t h = ap (λ (u : Text). u .glyphs) (h .text)
 
-module _ (ids : List ℕ) (t : Text) where
+module _ (write : ℕ → Glyph → Glyph) (ids : List ℕ) (t : Text) where
   -- the copies that are written
   abbrev new : List Glyph
-  new = copies ids (getD (t .glyphs) (t .cursor) blank)
+  new = copiesBy write ids (getD (t .glyphs) (t .cursor) blank)
 
-  pub replaced-length : t .cursor < length (t .glyphs) → length (replaced ids t .glyphs) ≡ length (t .glyphs) - 1 + length ids
+  pub replaced-length : t .cursor < length (t .glyphs) → length (replacedBy write ids t .glyphs) ≡ length (t .glyphs) - 1 + length ids
   replaced-length h =
       let f = length-take-le (t .cursor) (t .glyphs) (omega arith) in
-      let m : length new ≡ length ids = length-map ids (λ id. written id (getD (t .glyphs) (t .cursor) blank)) in
+      let m : length new ≡ length ids = length-map ids (λ id. write id (getD (t .glyphs) (t .cursor) blank)) in
       simp (length-append, length-drop) (omega arith)
 
   -- the glyphs before the cursor are untouched
-  pub replaced-before : t .cursor ≤ length (t .glyphs) → take (t .cursor) (replaced ids t .glyphs) ≡ take (t .cursor) (t .glyphs)
+  pub replaced-before : t .cursor ≤ length (t .glyphs) → take (t .cursor) (replacedBy write ids t .glyphs) ≡ take (t .cursor) (t .glyphs)
   replaced-before h =
       rw (append-assoc (take (t .cursor) (t .glyphs)) new (drop (t .cursor + 1) (t .glyphs)))
       (take-at (take (t .cursor) (t .glyphs)) (new ++ drop (t .cursor + 1) (t .glyphs)) (t .cursor) (length-take-le (t .cursor) (t .glyphs) h))
 
-  pub replaced-at-before : (i : ℕ) → t .cursor ≤ length (t .glyphs) → i < t .cursor → getD (replaced ids t .glyphs) i blank ≡ getD (t .glyphs) i blank
+  pub replaced-at-before : (i : ℕ) → t .cursor ≤ length (t .glyphs) → i < t .cursor → getD (replacedBy write ids t .glyphs) i blank ≡ getD (t .glyphs) i blank
   replaced-at-before i h l =
-      sym (getD-take (t .cursor) (replaced ids t .glyphs) i blank l)
+      sym (getD-take (t .cursor) (replacedBy write ids t .glyphs) i blank l)
       ∙ ap (λ (g : List Glyph). getD g i blank) (replaced-before h)
       ∙ getD-take (t .cursor) (t .glyphs) i blank l
 
   -- those after it follow what was written
-  pub replaced-after : t .cursor ≤ length (t .glyphs) → drop (t .cursor + length ids) (replaced ids t .glyphs) ≡ drop (t .cursor + 1) (t .glyphs)
+  pub replaced-after : t .cursor ≤ length (t .glyphs) → drop (t .cursor + length ids) (replacedBy write ids t .glyphs) ≡ drop (t .cursor + 1) (t .glyphs)
   replaced-after h =
       let f = length-take-le (t .cursor) (t .glyphs) h in
-      let m : length new ≡ length ids = length-map ids (λ id. written id (getD (t .glyphs) (t .cursor) blank)) in
+      let m : length new ≡ length ids = length-map ids (λ id. write id (getD (t .glyphs) (t .cursor) blank)) in
       drop-at (take (t .cursor) (t .glyphs) ++ new) (drop (t .cursor + 1) (t .glyphs)) (t .cursor + length ids) (simp length-append (omega arith))
 
 -- ---- what the rows show of the text that they hold

@@ -11,7 +11,7 @@ use Rattle.glyph.specs.declared.Glyph.{Glyph}
 use Rattle.glyph.specs.Glyph.{limit, words, Row, glyphsOf, blank}
 use Rattle.glyph.specs.Laws.{length-row}
 use Rattle.text.specs.declared.Place.{Place}
-use Rattle.text.specs.Text.{Text, textOf, Fits, Holds, Clear, movedTo, written, copies, replaced}
+use Rattle.text.specs.Text.{Text, textOf, Fits, Holds, Clear, movedTo, copiesBy, replacedBy}
 
 -- n glyphs copied from the start of the coming part to the end of the done part
 forth : (D C : List Glyph) (d i n : ℕ) → d ≤ length D → i + n ≤ length C
@@ -56,21 +56,21 @@ module _ (D C : List Glyph) (d i : ℕ) (h : d ≤ length D) where
       ∙ drop-append-add (take d D) (drop i C) 1
       ∙ drop-drop 1 i C
 
--- one copy more is written
-pub copies-more : (D : List Glyph) (d k : ℕ) (ids : List ℕ) (g : Glyph) → d + k < length D → k < length ids
-    → set (paste D d (copies ids g) k) (d + k) (written (getD ids k 0) g) ≡ paste D d (copies ids g) (k + 1)
-copies-more D d k ids g h l =
-    let m : k < length (copies ids g) = rw length-map l in
-    ap (λ (x : Glyph). set (paste D d (copies ids g) k) (d + k) x) (sym (List·getD-map (λ id. written id g) ids k 0))
-    ∙ rw add-one (paste-suc D d (copies ids g) k (written 0 g) h m)
+-- one copy more is written, whatever is written
+pub copies-more : (write : ℕ → Glyph → Glyph) (D : List Glyph) (d k : ℕ) (ids : List ℕ) (g : Glyph) → d + k < length D → k < length ids
+    → set (paste D d (copiesBy write ids g) k) (d + k) (write (getD ids k 0) g) ≡ paste D d (copiesBy write ids g) (k + 1)
+copies-more write D d k ids g h l =
+    let m : k < length (copiesBy write ids g) = rw length-map l in
+    ap (λ (x : Glyph). set (paste D d (copiesBy write ids g) k) (d + k) x) (sym (List·getD-map (λ id. write id g) ids k 0))
+    ∙ rw add-one (paste-suc D d (copiesBy write ids g) k (write 0 g) h m)
 
 -- one glyph written
-pub copied-one : (D : List Glyph) (d id : ℕ) (g : Glyph) → d < length D → set D d (written id g) ≡ paste D d (copies (id ∷ []) g) 1
-copied-one D d id g h =
+pub copied-one : (write : ℕ → Glyph → Glyph) (D : List Glyph) (d id : ℕ) (g : Glyph) → d < length D → set D d (write id g) ≡ paste D d (copiesBy write (id ∷ []) g) 1
+copied-one write D d id g h =
     let m : d + 0 < length D = omega arith in
-    ap (λ (n : ℕ). set D n (written id g)) (sym (add-zero d))
-    ∙ ap (λ (P : List Glyph). set P (d + 0) (written id g)) (paste-zero D d (copies (id ∷ []) g))
-    ∙ copies-more D d 0 (id ∷ []) g m (omega arith)
+    ap (λ (n : ℕ). set D n (write id g)) (sym (add-zero d))
+    ∙ ap (λ (P : List Glyph). set P (d + 0) (write id g)) (paste-zero D d (copiesBy write (id ∷ []) g))
+    ∙ copies-more write D d 0 (id ∷ []) g m (omega arith)
 
 -- what a caller's sums need
 pub record Sizes (done coming : List ℕ) (s : Place) : Type 0 where
@@ -124,18 +124,18 @@ module _ (done coming : List ℕ) (s : Place) (f : Fits done coming s) where
         text = λ j. record { glyphs = t j; cursor = p };
       }
 
-  pub replaced-is : (done′ ids : List ℕ) → length done′ ≡ length done → s .d < length (textOf done coming s .glyphs)
+  pub replaced-is : (write : ℕ → Glyph → Glyph) (done′ ids : List ℕ) → length done′ ≡ length done → s .d < length (textOf done coming s .glyphs)
       → length (textOf done coming s .glyphs) + length ids ≤ limit + 1
-      → glyphsOf done′ ≡ paste (glyphsOf done) (s .d) (copies ids (getD (glyphsOf coming) (s .idx) blank)) (length ids)
-      → Holds done′ coming (record { d = s .d + length ids; idx = s .idx + 1 }) (replaced ids (textOf done coming s))
-  replaced-is done′ ids same lt le q =
+      → glyphsOf done′ ≡ paste (glyphsOf done) (s .d) (copiesBy write ids (getD (glyphsOf coming) (s .idx) blank)) (length ids)
+      → Holds done′ coming (record { d = s .d + length ids; idx = s .idx + 1 }) (replacedBy write ids (textOf done coming s))
+  replaced-is write done′ ids same lt le q =
       let z = sizes done coming s f in
       let D : List Glyph = glyphsOf done in
       let C : List Glyph = glyphsOf coming in
-      let W : List Glyph = copies ids (getD C (s .idx) blank) in
+      let W : List Glyph = copiesBy write ids (getD C (s .idx) blank) in
       let h : s .d ≤ length D = omega arith in
-      let m : length W ≡ length ids = length-map ids (λ id. written id (getD C (s .idx) blank)) in
-      let t : take (s .d + length ids) (glyphsOf done′) ++ drop (s .idx + 1) C ≡ replaced ids (textOf done coming s) .glyphs =
+      let m : length W ≡ length ids = length-map ids (λ id. write id (getD C (s .idx) blank)) in
+      let t : take (s .d + length ids) (glyphsOf done′) ++ drop (s .idx + 1) C ≡ replacedBy write ids (textOf done coming s) .glyphs =
       rw (q, take-paste D (s .d) W (length ids) h (omega arith), take-all (length ids) W (omega arith), text-before D C (s .d) (s .idx) h, text-at D C (s .d) (s .idx) h, text-after D C (s .d) (s .idx) h) in
       record {
         fits = fits-at done coming done′ coming s (record { d = s .d + length ids; idx = s .idx + 1 }) f same refl (omega arith) (omega arith);

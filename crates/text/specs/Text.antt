@@ -22,16 +22,22 @@ movedTo p t = record { glyphs = t .glyphs; cursor = p }
 abbrev pub written : ℕ → Glyph → Glyph
 written id g = withId id g
 
--- the glyph g, once for each id
+-- the glyph g, once for each id, by what is written for an id in place of a glyph
+abbrev pub copiesBy : (ℕ → Glyph → Glyph) → List ℕ → Glyph → List Glyph
+copiesBy write ids g = map (λ id. write id g) ids
+
 abbrev pub copies : List ℕ → Glyph → List Glyph
-copies ids g = map (λ id. written id g) ids
+copies = copiesBy written
 
 -- the glyph at the cursor becomes one for each id, and the cursor goes past them; with no id it is deleted
-abbrev pub replaced : List ℕ → Text → Text
-replaced ids t = record {
-  glyphs = take (t .cursor) (t .glyphs) ++ copies ids (getD (t .glyphs) (t .cursor) blank) ++ drop (t .cursor + 1) (t .glyphs);
+abbrev pub replacedBy : (ℕ → Glyph → Glyph) → List ℕ → Text → Text
+replacedBy write ids t = record {
+  glyphs = take (t .cursor) (t .glyphs) ++ copiesBy write ids (getD (t .glyphs) (t .cursor) blank) ++ drop (t .cursor + 1) (t .glyphs);
   cursor = t .cursor + length ids;
 }
+
+abbrev pub replaced : List ℕ → Text → Text
+replaced = replacedBy written
 
 -- 10, Full: with one glyph made n the text would pass the limit, size - 1 + n > limit
 abbrev pub isFull : ℕ → ℕ → Bool

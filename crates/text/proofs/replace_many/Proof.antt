@@ -6,7 +6,7 @@ use lib.ListN.{length, getD}
 use lib.Seq.{paste, paste-zero}
 use Rattle.glyph.specs.Glyph.{glyphsOf, blank}
 use Rattle.glyph.specs.Laws.{length-same, length-glyphsOf}
-use Rattle.text.specs.Text.{copies}
+use Rattle.text.specs.Text.{copies, written}
 use Rattle.text.specs.Laws.{sizes, copies-more, replaced-is}
 use Rattle.text.proofs.replace_many.Statement.{statement}
 use Rattle.text.proofs.replace_many.Tie as tie
@@ -57,7 +57,7 @@ loop-again c = let a = c .before .before .before .before .before .before .before
   l .inv .2,
   l .inv .3,
   y .ensures
-      ∙ rw (l .inv .4) (copies-more (glyphsOf (a .done .now)) (a .s .d) (l .k) (a .ids .now) (getD (glyphsOf (a .coming .now)) (a .s .idx) blank) (omega arith) (omega arith)),
+      ∙ rw (l .inv .4) (copies-more written (glyphsOf (a .done .now)) (a .s .d) (l .k) (a .ids .now) (getD (glyphsOf (a .coming .now)) (a .s .idx) blank) (omega arith) (omega arith)),
 )
 
 add-t17 : tie.Need-add-t17 Inv-loop μ-loop
@@ -72,7 +72,7 @@ same-length c = c .before .loop .inv .1
 returns : tie.Need-returns Inv-loop μ-loop
 returns c = let q = c .before .before .before .before .before in let a = q .args in let l = c .before .loop in
     let e : l .k ≡ length (a .ids .now) = omega arith in
-    replaced-is (a .done .now) (a .coming .now) (a .s) (q .pre .0) (l .done) (a .ids .now) (l .inv .1) (q .pre .1) (q .pre .2) (rw e at (l .inv .4))
+    replaced-is (a .done .now) (a .coming .now) (a .s) (q .pre .0) written (l .done) (a .ids .now) (l .inv .1) (q .pre .1) (q .pre .2) (rw e at (l .inv .4))
 
 pub replace-many-spec : {M : Type 1} → statement M
 replace-many-spec =

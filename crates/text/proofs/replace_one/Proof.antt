@@ -4,6 +4,7 @@ use mathlib.Core.Path.{_∙_}
 use native.Mathlib.Omega.{arith}
 use lib.ListN.{getD}
 use Rattle.glyph.specs.Glyph.{glyphsOf, blank}
+use Rattle.text.specs.Text.{written}
 use Rattle.text.specs.Laws.{sizes, copied-one, replaced-is}
 use borrow.Author.Needs.{needs}
 use Rattle.text.proofs.replace_one.Statement.{statement}
@@ -24,8 +25,8 @@ same-length c = search needs
 returns : tie.Need-returns
 returns c = let q = c .before .before .before .before .before .before in let a = q .args in let y = c .before .before .write in
     let z = sizes (a .done .now) (a .coming .now) (a .s) (q .pre .0) in
-    replaced-is (a .done .now) (a .coming .now) (a .s) (q .pre .0) (y .last .0) (a .id ∷ []) (y .kept .0) (q .pre .1) (omega arith)
-    (y .ensures ∙ copied-one (glyphsOf (a .done .now)) (a .s .d) (a .id) (getD (glyphsOf (a .coming .now)) (a .s .idx) blank) (omega arith))
+    replaced-is (a .done .now) (a .coming .now) (a .s) (q .pre .0) written (y .last .0) (a .id ∷ []) (y .kept .0) (q .pre .1) (omega arith)
+    (y .ensures ∙ copied-one written (glyphsOf (a .done .now)) (a .s .d) (a .id) (getD (glyphsOf (a .coming .now)) (a .s .idx) blank) (omega arith))
 
 pub replace-one-spec : {M : Type 1} → statement M
 replace-one-spec = tie.close (tie.spec write-requires add-t10 add-t11 same-length returns)
