@@ -1,6 +1,7 @@
 -- The three calls on rows of words: refused by 1, 2, 3 or 6 in this order, else what the matcher says of the glyphs (01, "When the desk says no").
 use Prim.Native.Nat.{ℕ}
 use mathlib.Core.List.{List}
+use mathlib.Core.Option.{Option, none, some}
 use mathlib.Core.Bool.{Bool, cond, _||_}
 use lib.Dec.{eqb, ltb, leb}
 use lib.ListN.{length, getD, take}
@@ -14,7 +15,7 @@ use Rattle.matching.specs.declared.InputMatch.{InputMatch}
 use Rattle.matching.specs.declared.ContextMatch.{ContextMatch}
 use Rattle.matching.specs.Take.{slots, ahead, behind}
 use Rattle.matching.specs.Matchers.{inputOn, aheadOn, backOn, backwardGlyphs}
-use Rattle.matching.specs.Answers.{without, inputTold, contextTold}
+use Rattle.matching.specs.Answers.{without, inputTold, contextTold, refusalNumber}
 use Rattle.calls.specs.declared.Fit.{Fit}
 
 -- 1: a row not whole glyphs or over the limit, d or len past its row, odd mark sets
@@ -46,6 +47,11 @@ unfoldable pub aheadFit : List ℕ → ℕ → List ℕ → ℕ → ℕ → ℕ 
 aheadFit done d coming len idx start sets values =
     onText (badText done d coming len sets || ltb len start) len idx
     (cond (manyContext values) (Fit.Refused Values) (cond (eqb start 0) (Fit.Refused Start) Fit.Fits))
+
+-- the number of a refusal
+abbrev pub fitNumber : Fit → Option ℕ
+fitNumber Fit.Fits = none
+fitNumber (Fit.Refused why) = some (refusalNumber why)
 
 abbrev pub inputUnless : Fit → InputMatch → InputMatch
 inputUnless Fit.Fits m = m

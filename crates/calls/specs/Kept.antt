@@ -1,5 +1,5 @@
--- The calls keep demand 2. The reply of an outcome tells the outcome.
-use Prim.Native.Nat.{ℕ, suc, _+_, _-_}
+-- The calls keep demand 2: what no line of 01's table refuses is answered as the promises say. The reply of an outcome tells the outcome.
+use Prim.Native.Nat.{ℕ, suc, _+_, _-_, _≤_, _<_}
 use mathlib.Core.Path.{_≡_, refl, sym, ap, _∙_}
 use mathlib.Core.List.{List, [], _∷_}
 use mathlib.Core.Bool.{Bool}
@@ -23,8 +23,9 @@ use Rattle.matching.specs.Answers.{slotted, without, totalOf, inputTold, contex
 use Rattle.matching.specs.Demand2.{Loses}
 use Rattle.matching.specs.Demand2Laws.{demand-2, never-turned}
 use Rattle.matching.specs.Promises.{replies, inputSuccess, InputPromise, Leads, ContextPromise, inputJudge, inputRule, contextJudge}
-use Rattle.calls.specs.declared.Fit.{Fit}
-use Rattle.calls.specs.Calls.{inputFit, aheadFit, backFit, inputUnless, contextUnless, inputOf, aheadOf, backOf}
+use Rattle.calls.specs.Calls.{inputUnless, contextUnless, inputOf, aheadOf, backOf}
+use Rattle.calls.specs.Lines.{Shaped}
+use Rattle.calls.specs.Table.{input-fits, ahead-fits, back-fits}
 
 -- ---- input
 
@@ -136,28 +137,34 @@ module _ {X : Type 0} (lookup : Lookup) (sets : List ℕ) (test : X → Asked) w
   unfolding backOn
   back-takes row syllable values = refl
 
--- ---- the calls
+-- ---- the calls, where no line refuses: line 1 is Shaped (and a start within len), line 2 a cursor at or past len, line 3 too many values, line 6 a start of 0
 
-module _ {X : Type 0} (done : List ℕ) (d : ℕ) (coming : List ℕ) (len idx : ℕ) (lookup : Lookup) (sets : List ℕ) (test : X → Asked) (values : List X) where
+module _ {X : Type 0} (done : List ℕ) (d : ℕ) (coming : List ℕ) (len idx : ℕ) (lookup : Lookup) (sets : List ℕ) (test : X → Asked) (values : List X)
+    (shaped : Shaped done d coming len sets) (inside : idx < len) where
   abbrev text : List Glyph
   text = take len (glyphsOf coming)
 
-  pub input-promise : inputFit done d coming len idx sets (length values) ≡ Fit.Fits
+  pub input-promise : length values ≤ 63
       → InputPromise text idx values (inputJudge lookup sets test text idx) (inputRule lookup sets (take d (glyphsOf done)) text idx)
       (inputOf done d coming len idx lookup sets test values)
   unfolding inputOf inputOn inputBy
-  input-promise e = rw e (input-keeps text idx values (inputJudge lookup sets test text idx) (inputRule lookup sets (take d (glyphsOf done)) text idx))
+  input-promise few =
+      rw (input-fits done d coming len idx sets (length values) .1 (shaped, (inside, (few, tt))))
+      (input-keeps text idx values (inputJudge lookup sets test text idx) (inputRule lookup sets (take d (glyphsOf done)) text idx))
 
-  pub ahead-promise : (start : ℕ) → aheadFit done d coming len idx start sets (length values) ≡ Fit.Fits
+  pub ahead-promise : (start : ℕ) → start ≤ len → length values ≤ 64 → 1 ≤ start
       → ContextPromise (ahead (length text)) start values (contextJudge lookup sets test text idx text)
       (aheadOf done d coming len idx start lookup sets test values)
   unfolding aheadOf aheadOn
-  ahead-promise start e = rw e (context-keeps (ahead (length text)) start values (contextJudge lookup sets test text idx text))
+  ahead-promise start reached few some =
+      rw (ahead-fits done d coming len idx sets (length values) start .1 ((shaped, reached), (inside, (few, (some, tt)))))
+      (context-keeps (ahead (length text)) start values (contextJudge lookup sets test text idx text))
 
-  pub back-promise : backFit done d coming len idx sets (length values) ≡ Fit.Fits
+  pub back-promise : length values ≤ 64
       → let row = backwardGlyphs (lookup .settings .table) (take d (glyphsOf done)) (take idx text) in
       ContextPromise behind (length row) values (contextJudge lookup sets test text idx row) (backOf done d coming len idx lookup sets test values)
   unfolding backOf backOn
-  back-promise e =
+  back-promise few =
       let row = backwardGlyphs (lookup .settings .table) (take d (glyphsOf done)) (take idx text) in
-      rw e (context-keeps behind (length row) values (contextJudge lookup sets test text idx row))
+      rw (back-fits done d coming len idx sets (length values) .1 (shaped, (inside, (few, tt))))
+      (context-keeps behind (length row) values (contextJudge lookup sets test text idx row))

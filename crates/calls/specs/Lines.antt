@@ -1,10 +1,11 @@
--- What line 1 of the three calls' refusals lets pass (01, "When the desk says no"): the line holds where that isn't so. That a call is refused by exactly the first line that
--- holds: Demand1.
-use Prim.Native.Nat.{ℕ, _%_, _≤_}
+-- What the lines of the three calls' refusals let pass (01, "When the desk says no"), in their order: a line refuses where that isn't so. That a call is refused by exactly the
+-- first line that refuses: Demand1.
+use Prim.Native.Nat.{ℕ, _%_, _≤_, _<_}
 use mathlib.Core.Path.{_≡_}
-use mathlib.Core.List.{List}
+use mathlib.Core.List.{List, [], _∷_}
 use lib.ListN.{length}
 use Rattle.glyph.specs.Glyph.{limit, Row, glyphsOf}
+use Rattle.glyph.specs.Order.{Line}
 
 -- line 1: both rows are whole glyphs, at most the limit, d and len are in their rows, and mark sets are pairs
 pub record Shaped (done : List ℕ) (d : ℕ) (coming : List ℕ) (len : ℕ) (sets : List ℕ) : Type 0 where
@@ -15,3 +16,28 @@ pub record Shaped (done : List ℕ) (d : ℕ) (coming : List ℕ) (len : ℕ) (s
   pub coming-short : length (glyphsOf coming) ≤ limit
   pub len-inside : len ≤ length (glyphsOf coming)
   pub sets-paired : length sets % 2 ≡ 0
+
+-- input: at most 63 values
+abbrev pub inputLines : List ℕ → ℕ → List ℕ → ℕ → ℕ → List ℕ → ℕ → List Line
+inputLines done d coming len idx sets values =
+    record { number = 1; lets = Shaped done d coming len sets }
+    ∷ record { number = 2; lets = idx < len }
+    ∷ record { number = 3; lets = values ≤ 63 }
+    ∷ []
+
+-- backtrack: at most 64
+abbrev pub backLines : List ℕ → ℕ → List ℕ → ℕ → ℕ → List ℕ → ℕ → List Line
+backLines done d coming len idx sets values =
+    record { number = 1; lets = Shaped done d coming len sets }
+    ∷ record { number = 2; lets = idx < len }
+    ∷ record { number = 3; lets = values ≤ 64 }
+    ∷ []
+
+-- lookahead: a start past len is 1 too, and a start of 0 is 6, also with no values
+abbrev pub aheadLines : List ℕ → ℕ → List ℕ → ℕ → ℕ → ℕ → List ℕ → ℕ → List Line
+aheadLines done d coming len idx start sets values =
+    record { number = 1; lets = Shaped done d coming len sets × (start ≤ len) }
+    ∷ record { number = 2; lets = idx < len }
+    ∷ record { number = 3; lets = values ≤ 64 }
+    ∷ record { number = 6; lets = 1 ≤ start }
+    ∷ []

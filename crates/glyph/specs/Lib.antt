@@ -1,6 +1,7 @@
 pub mod Glyph
 pub mod Laws
 pub mod Lossless
+pub mod Order
 pub mod Reply
 pub mod Sets
 pub mod SetLaws

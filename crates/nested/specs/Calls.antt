@@ -2,6 +2,7 @@
 use mathlib.Core.Path.{_≡_}
 use mathlib.Core.Bool.{Bool, true, false, cond, not, _&&_, _||_}
 use mathlib.Core.List.{List, [], _∷_}
+use mathlib.Core.Option.{Option, none, some}
 use Prim.Native.Nat.{ℕ, _+_, _-_, _*_, _%_}
 use lib.Dec.{eqb, leb, ltb}
 use lib.ListN.{length, getD, take}
@@ -112,6 +113,10 @@ refusalNumber Cursor = 2
 refusalNumber Limits = 12
 refusalNumber Book = 11
 refusalNumber Match = 7
+
+abbrev pub checkedNumber : Checked → Option ℕ
+checkedNumber Checked.Accepted = none
+checkedNumber (Checked.Refused why) = some (refusalNumber why)
 
 abbrev runReplyBy : RunEnding → List ℕ → Reply
 runReplyBy (RunEnding.Ended e) values = record { number = endingNumber e; values = values }

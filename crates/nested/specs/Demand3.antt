@@ -1,22 +1,29 @@
 -- Demand 3 of calls, in 01's numbers and values (01, "Nailing an answer down": a Finished run stays the same with a larger allowance and depth, and one less
--- than it spent is Short). Said of any answers and rows that meet the contract of `nested::run`, so of every call of it.
+-- than it spent is Short). Said of two calls of the same text, and of any answers and rows that meet the contract of `nested::run`, so of every call of it.
 use mathlib.Core.Path.{_≡_, refl, sym, ap, subst, _∙_}
-use mathlib.Core.List.{List, [], _∷_}
-use Prim.Native.Nat.{ℕ, suc, _≤_, _<_}
+use mathlib.Core.List.{List, [], _∷_, _++_}
+use mathlib.Core.Logic.{inl, inr, ⊎-elim}
+use Prim.Native.Nat.{ℕ, suc, _+_, _-_, _*_, _%_, _≤_, _<_}
 use native.Mathlib.Omega.{arith}
-use lib.ListN.{length, take}
+use lib.ListN.{length, getD, take, drop, length-append, length-drop}
+use lib.Seq.{getD-take, length-take-le}
+use Rattle.glyph.specs.Glyph.{limit, glyphsOf}
+use Rattle.glyph.specs.Laws.{length-row}
 use Rattle.glyph.specs.Lossless.{Small}
 use Rattle.glyph.specs.Reply.{Reply}
 use Rattle.text.specs.declared.Place.{Place}
-use Rattle.text.specs.Text.{Text, textOf}
+use Rattle.text.specs.Text.{Text, textOf, Fits}
+use Rattle.text.specs.Laws.{sizes}
+use Rattle.matching.specs.declared.InputAnswer.{InputAnswer}
 use Rattle.matching.specs.declared.InputMatch.{InputMatch}
 use Rattle.matching.specs.Answers.{slotted, endOf}
-use Rattle.book.specs.Book.{recordsOf, lookupsOf}
+use Rattle.book.specs.Book.{mostRecords, recordsOf, lookupsOf}
+use Rattle.book.specs.Encode.{Narrow}
 use Rattle.runs.specs.declared.Ending.{Ending}
 use Rattle.runs.specs.declared.Ending.the-variants.{Finished, Short, Deep, Full}
 use Rattle.runs.specs.declared.Given.{Given}
 use Rattle.runs.specs.Repair.{Level}
-use Rattle.runs.specs.Run.{Stage, movedLevel}
+use Rattle.runs.specs.Run.{Stage, runOn, movedLevel}
 use Rattle.runs.specs.Chain.{ruled}
 use Rattle.runs.specs.Promises.{Alike, more-is-same, less-is-short, spent-within}
 use Rattle.nested.specs.declared.Refusal.{Refusal}
@@ -24,29 +31,31 @@ use Rattle.nested.specs.declared.Refusal.the-variants.{Shape, Cursor, Li
 use Rattle.nested.specs.declared.RunEnding.{RunEnding}
 use Rattle.nested.specs.declared.RunAnswer.{RunAnswer}
 use Rattle.nested.specs.declared.Checked.{Checked}
-use Rattle.nested.specs.Calls.{checkedAll, runSays, Said, Whole, refusedBy, endingNumber, refusalNumber, runReply}
-use Rattle.nested.specs.Replies.{refused-reply, ended-number}
+use Rattle.nested.specs.Calls.{Said, Whole, endingNumber, refusalNumber, runReply}
+use Rattle.nested.specs.Replies.{refused-reply, ended-number, told-refused}
 use Rattle.nested.specs.Decided.{run-decided}
-use Rattle.nested.specs.Lines.{Limited, Beyond}
-use Rattle.nested.specs.Table.{accepted, refused-12}
-use Rattle.nested.specs.Handed.{Handed, Left, numberOf, repliesAs, checkedOf, stageOf, Called}
+use Rattle.nested.specs.CallLaws.{said-whole as said-by}
+use Rattle.nested.specs.Lines.{Limited, Beyond, Legible, placesOf, Usable}
+use Rattle.nested.specs.Table.{refused, accepted, fits-of}
+use Rattle.nested.specs.Handed.{Handed, SameText, Left, numberOf, repliesAs, textAfter, checkedOf, stageOf, Called, Acceptable}
 
--- the same number and values (spent, d, idx, the count, the positions), all 64 slots, and every word of both rows
+-- the same number and values (spent, d, idx, the count, the positions), all 64 slots, the same text, and every word of both rows
 pub record Same (l l′ : Left) : Type 0 where
   pub answer : l .answer ≡ l′ .answer
   pub reply : runReply (l .answer) ≡ runReply (l′ .answer)
+  pub text : textAfter l ≡ textAfter l′
   pub done-same : l .done ≡ l′ .done
   pub coming-same : l .coming ≡ l′ .coming
 
-pub record Demand3 (h : Handed) : Type 0 where
+pub record Demand3 (h h′ : Handed) : Type 0 where
   -- Finished (0); at least its allowance and depth, within 12's limits
-  pub more-same : (a d a′ d′ : ℕ) (l l′ : Left) → Called h a d l → Called h a′ d′ l′ → numberOf l ≡ 0 → a ≤ a′ → d ≤ d′ → Limited a′ d′ → Same l l′
+  pub more-same : (a d a′ d′ : ℕ) (l l′ : Left) → Called h a d l → Called h′ a′ d′ l′ → numberOf l ≡ 0 → a ≤ a′ → d ≤ d′ → Limited a′ d′ → Same l l′
   -- and beyond them, 12
-  pub beyond-12 : (a d a′ d′ : ℕ) (l l′ : Left) → Called h a d l → Called h a′ d′ l′ → numberOf l ≡ 0 → Beyond a′ d′ → repliesAs 12 [] l′
+  pub beyond-12 : (a d a′ d′ : ℕ) (l l′ : Left) → Called h a d l → Called h′ a′ d′ l′ → numberOf l ≡ 0 → Beyond a′ d′ → repliesAs 12 [] l′
   -- Finished, and s spent; with any allowance below that and the same depth it is Short (8)
-  pub less-short : (a d a′ s : ℕ) (values : List ℕ) (l l′ : Left) → Called h a d l → Called h a′ d l′ → repliesAs 0 (s ∷ values) l → a′ < s → numberOf l′ ≡ 8
+  pub less-short : (a d a′ s : ℕ) (values : List ℕ) (l l′ : Left) → Called h a d l → Called h′ a′ d l′ → repliesAs 0 (s ∷ values) l → a′ < s → numberOf l′ ≡ 8
   -- so with one less
-  pub one-less-short : (a d s : ℕ) (values : List ℕ) (l l′ : Left) → Called h a d l → Called h s d l′ → repliesAs 0 (suc s ∷ values) l → numberOf l′ ≡ 8
+  pub one-less-short : (a d s : ℕ) (values : List ℕ) (l l′ : Left) → Called h a d l → Called h′ s d l′ → repliesAs 0 (suc s ∷ values) l → numberOf l′ ≡ 8
 
 -- ---- a reply of 0 is a run that ended Finished
 
@@ -93,20 +102,14 @@ module _ (h : Handed) where
   t = textOf (h .done) (h .coming) (h .place)
 
   -- the same call is accepted with any other allowance and depth within 12's limits
-  still-accepted : (a d a′ d′ : ℕ) → checkedOf h a d ≡ Checked.Accepted → Limited a′ d′ → checkedOf h a′ d′ ≡ Checked.Accepted
-  still-accepted a d a′ d′ e l =
-      let s = accepted (h .done) (h .coming) (h .place) (h .sets) (h .book) (h .records) (h .match) a d .0 e in
-      accepted (h .done) (h .coming) (h .place) (h .sets) (h .book) (h .records) (h .match) a′ d′ .1 (s .0, s .1, l, s .3, s .4)
-
-  limits-of : (a d : ℕ) → checkedOf h a d ≡ Checked.Accepted → Limited a d
-  limits-of a d e = accepted (h .done) (h .coming) (h .place) (h .sets) (h .book) (h .records) (h .match) a d .0 e .2
+  still-accepted : Narrow (h .book) → (a d a′ d′ : ℕ) → checkedOf h a d ≡ Checked.Accepted → Limited a′ d′ → checkedOf h a′ d′ ≡ Checked.Accepted
+  still-accepted w a d a′ d′ e l =
+      let s = accepted h a d w .0 e in
+      accepted h a′ d′ w .1 (record { shaped = s .shaped; inside = s .inside; limited = l; legible = s .legible; usable = s .usable })
 
   -- what is said of a call that is accepted
   said-whole : (a d : ℕ) (l : Left) → Called h a d l → checkedOf h a d ≡ Checked.Accepted → Whole (stageOf h a d) (l .done) (l .coming) (l .answer)
   said-whole a d l c e = subst (λ (k : Checked). Said k (stageOf h a d) (h .done) (h .coming) (l .done) (l .coming) (l .answer)) e (c .said)
-
-  said-12 : (a d : ℕ) (l : Left) → Called h a d l → checkedOf h a d ≡ Checked.Refused Limits → l .answer ≡ refusedBy Limits
-  said-12 a d l c e = subst (λ (k : Checked). Said k (stageOf h a d) (h .done) (h .coming) (l .done) (l .coming) (l .answer)) e (c .said) .0
 
   module _ (a d : ℕ) (l : Left) (c : Called h a d l) where
     module _ (z : numberOf l ≡ 0) where
@@ -115,18 +118,25 @@ module _ (h : Handed) where
 
       same-by : (a′ d′ : ℕ) (l′ : Left) → Called h a′ d′ l′ → a ≤ a′ → d ≤ d′ → Limited a′ d′ → Same l l′
       same-by a′ d′ l′ c′ more deeper lim =
-          let w′ = said-whole a′ d′ l′ c′ (still-accepted a d a′ d′ (ended .taken) lim) in
+          let w′ = said-whole a′ d′ l′ c′ (still-accepted (c .book-words) a d a′ d′ (ended .taken) lim) in
           let alike : Alike (stageOf h a′ d′) (stageOf h a d) =
           more-is-same (ruled (h .given) (h .sets)) (lookupsOf (h .book)) (recordsOf (h .records)) (first .positions) (first .end) t d d′ a a′ deeper more (ended .finished) in
           let s = run-decided Checked.Accepted (stageOf h a d) (h .done) (h .coming) (l .done) (l .coming) (l .answer) (l′ .done) (l′ .coming) (l′ .answer)
           (c .done-words) (c .coming-words) (c′ .done-words) (c′ .coming-words) (ended .whole) (whole-alike (stageOf h a′ d′) (stageOf h a d) (l′ .done) (l′ .coming) (l′ .answer) alike w′) in
-          record { answer = s .answer; reply = ap runReply (s .answer); done-same = s .done-same; coming-same = s .coming-same }
+          record {
+            answer = s .answer;
+            reply = ap runReply (s .answer);
+            text = λ j. textOf (s .done-same j) (s .coming-same j) (record { d = s .answer j .d; idx = s .answer j .idx });
+            done-same = s .done-same;
+            coming-same = s .coming-same;
+          }
 
       beyond-by : (a′ d′ : ℕ) (l′ : Left) → Called h a′ d′ l′ → Beyond a′ d′ → repliesAs 12 [] l′
       beyond-by a′ d′ l′ c′ b =
-          let s = accepted (h .done) (h .coming) (h .place) (h .sets) (h .book) (h .records) (h .match) a d .0 (ended .taken) in
-          let e = refused-12 (h .done) (h .coming) (h .place) (h .sets) (h .book) (h .records) (h .match) a′ d′ .1 (s .0, s .1, b) in
-          refused-reply (l′ .answer) Limits (said-12 a′ d′ l′ c′ e)
+          let s = accepted h a d (c .book-words) .0 (ended .taken) in
+          let n : Limited a′ d′ → ⊥ = λ m. ⊎-elim (λ k. let o = m .0 in omega arith) (λ k. let o = m .1 in omega arith) b in
+          told-refused (checkedOf h a′ d′) (stageOf h a′ d′) (h .done) (h .coming) (l′ .done) (l′ .coming) (l′ .answer) 12 (c′ .said) .1
+          (refused h a′ d′ (c .book-words) 12 .1 (inr (s .shaped, inr (s .inside, inl (refl, n)))))
 
       short-by : (a′ : ℕ) (l′ : Left) → Called h a′ d l′ → a′ < l .answer .spent → numberOf l′ ≡ 8
       short-by a′ l′ c′ lt =
@@ -135,8 +145,8 @@ module _ (h : Handed) where
           let records = recordsOf (h .records) in
           let some : a′ < stageOf h a d .run .tries = omega (arith, ended .whole .spent) in
           let few = spent-within rules book records (first .positions) (first .end) t d a in
-          let lim = limits-of a d (ended .taken) in
-          let w′ = said-whole a′ d l′ c′ (still-accepted a d a′ d (ended .taken) (omega (arith, lim .0), lim .1)) in
+          let lim = accepted h a d (c .book-words) .0 (ended .taken) .limited in
+          let w′ = said-whole a′ d l′ c′ (still-accepted (c .book-words) a d a′ d (ended .taken) (omega (arith, lim .0), lim .1)) in
           let e : stageOf h a′ d .run .ending ≡ Short = less-is-short rules book records (first .positions) (first .end) t d a a′ (ended .finished) some in
           ended-number (l′ .answer) Short (w′ .ending ∙ ap RunEnding.Ended e)
 
@@ -145,14 +155,120 @@ spent-first : (r : RunAnswer) (e : RunEnding) (s : ℕ) (values : List ℕ) → 
 spent-first r (RunEnding.Ended e) s values q z = let w = ap (λ (x : Reply). x .values) (rw q at z) in cc
 spent-first r (RunEnding.Refused why) s values q z = absurd (refusal-not-0 why (ap (λ (x : Reply). x .number) (rw q at z)))
 
-pub demand-3 : (h : Handed) → Demand3 h
-demand-3 h = record {
-  more-same = λ a d a′ d′ l l′ c c′ z more deeper lim. same-by h a d l c z a′ d′ l′ c′ more deeper lim;
-  beyond-12 = λ a d a′ d′ l l′ c c′ z b. beyond-by h a d l c z a′ d′ l′ c′ b;
+-- ---- a call that is accepted stays so over any rows that hold its text
+
+-- the place is the text's where the rows have a run's length
+place-by : (done coming done′ coming′ : List ℕ) (p p′ : Place) → Fits done coming p → p .idx < limit → length done ≡ length done′ → length coming ≡ length coming′
+    → textOf done coming p ≡ textOf done′ coming′ p′ → p ≡ p′
+place-by done coming done′ coming′ p p′ f i a b e =
+    let z = sizes done coming p f in
+    let D : length (glyphsOf done′) ≡ limit = length-row limit done′ (sym a ∙ f .long) in
+    let C : length (glyphsOf coming′) ≡ limit = length-row limit coming′ (sym b ∙ f .wide) in
+    let d : p .d ≡ p′ .d = ap (λ (t : Text). t .cursor) e in
+    let r = f .room in
+    let w = f .within in
+    let front : length (take (p′ .d) (glyphsOf done′)) ≡ p′ .d = length-take-le (p′ .d) (glyphsOf done′) (omega arith) in
+    let whole : length (take (p′ .d) (glyphsOf done′) ++ drop (p′ .idx) (glyphsOf coming′)) ≡ p′ .d + (limit - p′ .idx) = simp (length-append, length-drop) (omega arith) in
+    let n : length (textOf done coming p .glyphs) ≡ length (textOf done′ coming′ p′ .glyphs) = ap (λ (t : Text). length (t .glyphs)) e in
+    let x : p .idx ≡ p′ .idx = omega (arith, z .text-is) in
+    λ j. record { d = d j; idx = x j }
+
+-- a match with the same positions and end is as good; its total isn't looked at
+usable-too : (idx : ℕ) (m m′ : InputMatch) → m .count ≡ m′ .count → placesOf m ≡ placesOf m′
+    → ((n total : ℕ) → m .answer ≡ InputAnswer.Matched n total → (total′ : ℕ) × (m′ .answer ≡ InputAnswer.Matched n total′)) → Usable idx m → Usable idx m′
+usable-too idx m m′ n ps e u =
+    let s = e (u .end) (u .total) (u .success) in
+    let c = u .some in
+    let f : getD (placesOf m′) 0 0 ≡ idx = ap (λ (l : List ℕ). getD l 0 0) (sym ps) ∙ getD-take (m .count) (m .positions) 0 0 c ∙ u .first in
+    record {
+      end = u .end;
+      total = s .0;
+      success = s .1;
+      some = omega arith;
+      few = omega (arith, u .few);
+      first = sym (getD-take (m′ .count) (m′ .positions) 0 0 (omega arith)) ∙ f;
+      rising = subst (λ (l : List ℕ). (i : ℕ) → suc i < length l → getD l i 0 < getD l (suc i) 0) ps (u .rising);
+      below = subst (λ (l : List ℕ). (i : ℕ) → i < length l → getD l i 0 < u .end) ps (u .below);
+      within = u .within;
+    }
+
+module _ (h h′ : Handed) (s : SameText h h′) (a d : ℕ) (k : Acceptable h a d) where
+  same-place : h .place ≡ h′ .place
+  same-place =
+      place-by (h .done) (h .coming) (h′ .done) (h′ .coming) (h .place) (h′ .place) (fits-of h (k .shaped) (k .inside)) (k .inside) (s .done-long) (s .coming-long) (s .text)
+
+  acceptable-too : Acceptable h′ a d
+  acceptable-too =
+      let z = k .shaped in
+      let i = k .inside in
+      let n = ap (λ (p : Place). p .d) same-place in
+      let x = ap (λ (p : Place). p .idx) same-place in
+      record {
+        shaped = record {
+          done-long = sym (s .done-long) ∙ z .done-long;
+          coming-long = sym (s .coming-long) ∙ z .coming-long;
+          d-inside = omega (arith, z .d-inside);
+          text-inside = omega (arith, z .text-inside);
+          sets-paired = subst (λ (l : List ℕ). length l % 2 ≡ 0) (s .sets) (z .sets-paired);
+          records-paired = subst (λ (l : List ℕ). length l % 2 ≡ 0) (s .records) (z .records-paired);
+          records-few = subst (λ (l : List ℕ). length l ≤ 2 * mostRecords) (s .records) (z .records-few);
+        };
+        inside = omega arith;
+        limited = k .limited;
+        legible = subst Legible (s .book) (k .legible);
+        usable = subst (λ (n : ℕ). Usable n (h′ .match)) x (usable-too (h .place .idx) (h .match) (h′ .match) (s .count) (s .positions) (s .end) (k .usable));
+      }
+
+  -- the run is the same
+  same-stage : stageOf h a d ≡ stageOf h′ a d
+  same-stage =
+      let u = k .usable in
+      let q = same-place in
+      let x : endOf (h .match .answer) ≡ endOf (h′ .match .answer) = ap endOf (u .success) ∙ sym (ap endOf (s .end (u .end) (u .total) (u .success) .1)) in
+      let first : movedLevel (h .place .idx) (h .place .d) (placesOf (h .match)) (endOf (h .match .answer))
+      ≡ movedLevel (h′ .place .idx) (h′ .place .d) (placesOf (h′ .match)) (endOf (h′ .match .answer)) =
+      λ j. movedLevel (q j .idx) (q j .d) (s .positions j) (x j) in
+      λ j. runOn (ruled (s .given j) (s .sets j)) (lookupsOf (s .book j)) d (recordsOf (s .records j)) (first j .positions) (first j .end) a (s .text j)
+
+-- what a run that is Finished left, the same call over other rows with the text may leave
+handed-over : (h h′ : Handed) → SameText h h′ → (a d : ℕ) (l : Left) → Called h a d l → numberOf l ≡ 0 → Called h′ a d l
+handed-over h h′ s a d l c z =
+    let e = ended h a d l c z in
+    let k = accepted h a d (c .book-words) .0 (e .taken) in
+    let w = subst Narrow (s .book) (c .book-words) in
+    record {
+      said = said-by (checkedOf h′ a d) (stageOf h′ a d) (h′ .done) (h′ .coming) (l .done) (l .coming) (l .answer) (accepted h′ a d w .1 (acceptable-too h h′ s a d k))
+          (subst (λ (v : Stage). Whole v (l .done) (l .coming) (l .answer)) (same-stage h h′ s a d k) (e .whole));
+      done-words = c .done-words;
+      coming-words = c .coming-words;
+      book-words = w;
+    }
+
+-- for every two calls of the same text
+pub demand-3 : (h h′ : Handed) → SameText h h′ → Demand3 h h′
+demand-3 h h′ s = record {
+  more-same = λ a d a′ d′ l l′ c c′ z more deeper lim. same-by h′ a d l (handed-over h h′ s a d l c z) z a′ d′ l′ c′ more deeper lim;
+  beyond-12 = λ a d a′ d′ l l′ c c′ z b. beyond-by h′ a d l (handed-over h h′ s a d l c z) z a′ d′ l′ c′ b;
   less-short = less;
   one-less-short = λ a d s values l l′ c c′ z. less a d s (suc s) values l l′ c c′ z (omega arith);
 }
   where
-    less : (a d a′ s : ℕ) (values : List ℕ) (l l′ : Left) → Called h a d l → Called h a′ d l′ → repliesAs 0 (s ∷ values) l → a′ < s → numberOf l′ ≡ 8
-    less a d a′ s values l l′ c c′ z lt =
-        short-by h a d l c (ap (λ (x : Reply). x .number) z) a′ l′ c′ (omega (arith, spent-first (l .answer) (l .answer .ending) s values refl z))
+    less : (a d a′ n : ℕ) (values : List ℕ) (l l′ : Left) → Called h a d l → Called h′ a′ d l′ → repliesAs 0 (n ∷ values) l → a′ < n → numberOf l′ ≡ 8
+    less a d a′ n values l l′ c c′ z lt =
+        let y : numberOf l ≡ 0 = ap (λ (x : Reply). x .number) z in
+        short-by h′ a d l (handed-over h h′ s a d l c y) y a′ l′ c′ (omega (arith, spent-first (l .answer) (l .answer .ending) n values refl z))
+
+-- so for every two that differ in allowance and depth alone
+pub same-rows : (h : Handed) → SameText h h
+same-rows h = record {
+  text = refl;
+  done-long = refl;
+  coming-long = refl;
+  count = refl;
+  positions = refl;
+  end = λ n total e. (total, e);
+  sets = refl;
+  book = refl;
+  records = refl;
+  given = refl;
+}

@@ -1,19 +1,20 @@
 -- A run touches no glyph before the match's first position, which is the cursor, and leaves rising positions (01, "Records over a text"), said of calls.
 -- Every chain of a book that reads matches in its text, so what is shown of any fair way of matching chains holds of the run.
 use mathlib.Core.Path.{_≡_, refl, sym, ap, ap₂, subst, _∙_}
+use mathlib.Core.Bool.{true}
 use mathlib.Core.List.{List}
 use Prim.Native.Nat.{ℕ, _-_, _≤_, _<_}
 use native.Mathlib.Omega.{arith}
 use lib.ListN.{length, getD, take, replicate, length-take, length-map}
 use lib.Seq.{take-at}
 use Rattle.glyph.specs.declared.Glyph.{Glyph}
-use Rattle.glyph.specs.Glyph.{limit, glyphsOf, blank}
+use Rattle.glyph.specs.Glyph.{glyphsOf, blank}
 use Rattle.text.specs.declared.Place.{Place}
 use Rattle.text.specs.Text.{Text, textOf, written, Fits}
 use Rattle.text.specs.Changes.{before-cursor}
 use Rattle.text.specs.Laws.{sizes}
 use Rattle.matching.specs.Take.{slots}
-use Rattle.book.specs.Book.{Reading, recordsOf, isRead, lookupsOf}
+use Rattle.book.specs.Book.{recordsOf, readBook, isRead, lookupsOf}
 use Rattle.book.specs.Places.{indexOf}
 use Rattle.book.specs.Starts.{index-reads}
 use Rattle.runs.specs.declared.Given.{Given}
@@ -28,18 +29,13 @@ use Rattle.nested.specs.declared.Checked.{Checked}
 use Rattle.chains.specs.Cycle.{book-fair}
 use Rattle.nested.specs.Calls.{Said, Whole}
 use Rattle.nested.specs.CallLaws.{places-show, moved-rise, index-is}
-use Rattle.nested.specs.Lines.{Shaped, Usable, placesOf}
-use Rattle.nested.specs.Table.{Readable, good-by, accepted}
-use Rattle.nested.specs.Handed.{Handed, Left, Called, checkedOf, stageOf}
+use Rattle.nested.specs.Lines.{Usable, placesOf}
+use Rattle.nested.specs.Table.{good-by, reads, accepted, fits-of}
+use Rattle.nested.specs.Handed.{Handed, Left, textAfter, Called, stageOf, Acceptable}
 use Rattle.matching.specs.Answers.{endOf}
 
--- the text that a call left in the rows
-abbrev pub textAfter : Left → Text
-textAfter l = textOf (l .done) (l .coming) (record { d = l .answer .d; idx = l .answer .idx })
-
-fair-of : (book : List ℕ) (given : Given) (sets : List ℕ) → Readable book → Fair (ruled given sets) (lookupsOf book)
-fair-of book given sets r =
-    book-fair (index-is book (indexOf book) refl (index-reads book ∙ ap (λ (k : Reading). isRead k) (r .1))) given sets
+fair-of : (book : List ℕ) (given : Given) (sets : List ℕ) → isRead (readBook book) ≡ true → Fair (ruled given sets) (lookupsOf book)
+fair-of book given sets r = book-fair (index-is book (indexOf book) refl (index-reads book ∙ r)) given sets
 
 module _ (h : Handed) where
   abbrev p : Place
@@ -50,9 +46,6 @@ module _ (h : Handed) where
 
   abbrev first : Level
   first = movedLevel (p .idx) (p .d) (placesOf (h .match)) (endOf (h .match .answer))
-
-  fits : Shaped (h .done) (h .coming) p (h .sets) (h .records) → p .idx < limit → Fits (h .done) (h .coming) p
-  fits s i = let u = s .text-inside in record { long = s .done-long; wide = s .coming-long; within = omega arith; room = omega arith }
 
   -- the level of the match that is handed in lies in the text, from the cursor on
   first-sound : Fits (h .done) (h .coming) p → Usable (p .idx) (h .match) → Sound (p .d) (length (t .glyphs)) first
@@ -69,19 +62,19 @@ module _ (h : Handed) where
         within = omega (arith, u .within);
       }
 
-  module _ (a d : ℕ) (l : Left) (c : Called h a d l) (e : checkedOf h a d ≡ Checked.Accepted) where
-    lines : Shaped (h .done) (h .coming) p (h .sets) (h .records) × (p .idx < limit) × Readable (h .book) × Usable (p .idx) (h .match)
-    lines = let s = accepted (h .done) (h .coming) p (h .sets) (h .book) (h .records) (h .match) a d .0 e in (s .0, s .1, s .3, s .4)
+  -- any call that no line refuses
+  module _ (a d : ℕ) (l : Left) (c : Called h a d l) (k : Acceptable h a d) where
+    fits : Fits (h .done) (h .coming) p
+    fits = fits-of h (k .shaped) (k .inside)
 
     good : Good (p .d) (begun a t) (stageOf h a d)
     good =
-        let f = fits (lines .0) (lines .1) in
-        let z = sizes (h .done) (h .coming) p f in
+        let z = sizes (h .done) (h .coming) p fits in
         run-good (ruled (h .given) (h .sets)) (lookupsOf (h .book)) (recordsOf (h .records)) (first .positions) (first .end) t
-        (fair-of (h .book) (h .given) (h .sets) (lines .2)) d a (first-sound f (lines .3)) (omega arith)
+        (fair-of (h .book) (h .given) (h .sets) (reads (h .book) (c .book-words) (k .legible))) d a (first-sound fits (k .usable)) (omega arith)
 
     whole : Whole (stageOf h a d) (l .done) (l .coming) (l .answer)
-    whole = subst (λ (k : Checked). Said k (stageOf h a d) (h .done) (h .coming) (l .done) (l .coming) (l .answer)) e (c .said)
+    whole = subst (λ (k : Checked). Said k (stageOf h a d) (h .done) (h .coming) (l .done) (l .coming) (l .answer)) (accepted h a d (c .book-words) .1 k) (c .said)
 
     -- the level that it leaves, over the text that it leaves
     level-sound : Sound (p .d) (length (textAfter l .glyphs)) (stageOf h a d .level)
@@ -90,7 +83,7 @@ module _ (h : Handed) where
     -- the glyphs before the cursor, the first d of `done`, are those of the text afterwards
     pub run-keeps : take (p .d) (textAfter l .glyphs) ≡ take (p .d) (glyphsOf (h .done))
     run-keeps =
-        ap (λ (u : Text). take (p .d) (u .glyphs)) (whole .holds .text) ∙ good .kept .before ∙ before-cursor (fits (lines .0) (lines .1))
+        ap (λ (u : Text). take (p .d) (u .glyphs)) (whole .holds .text) ∙ good .kept .before ∙ before-cursor fits
 
     -- the answer's positions are at most 64
     pub positions-few : l .answer .count ≤ slots

@@ -1,8 +1,9 @@
--- A reply tells the case that it is of: a refusal's number no ending has, and no two refusals and no two endings have one number.
+-- A reply tells the case that it is of: a refusal's number no ending has, and no two endings have one number.
 use mathlib.Core.Path.{_≡_, refl, sym, ap, _∙_}
 use mathlib.Core.Bool.{Bool, true, false, cond, _&&_, _||_, true≢false}
 use mathlib.Core.List.{List, [], _∷_}
 use mathlib.Core.Logic.{_↔_}
+use mathlib.Core.Option.{some, Option·some-inj, Option·none-ne-some}
 use Prim.Native.Nat.{ℕ}
 use native.Mathlib.Omega.{arith}
 use lib.Dec.{eqb, leb}
@@ -16,7 +17,7 @@ use Rattle.nested.specs.declared.Refusal.the-variants.{Shape, Cursor, Li
 use Rattle.nested.specs.declared.RunEnding.{RunEnding}
 use Rattle.nested.specs.declared.RunAnswer.{RunAnswer}
 use Rattle.nested.specs.declared.Checked.{Checked}
-use Rattle.nested.specs.Calls.{Said, Whole, refusedBy, endingNumber, refusalNumber, runReply}
+use Rattle.nested.specs.Calls.{Said, Whole, refusedBy, endingNumber, refusalNumber, checkedNumber, runReply}
 
 pub refused-reply : (r : RunAnswer) (why : Refusal) → r ≡ refusedBy why → runReply r ≡ record { number = refusalNumber why; values = [] }
 refused-reply r why q = rw q
@@ -25,16 +26,6 @@ pub ended-number : (r : RunAnswer) (e : Ending) → r .ending ≡ RunEnding.Ende
 ended-number r e q = rw q
 
 -- ---- numbers tell apart
-
-abbrev refusalBy : ℕ → Refusal
-refusalBy n = cond (eqb n 1) Shape (cond (eqb n 2) Cursor (cond (eqb n 12) Limits (cond (eqb n 11) Book Match)))
-
-refusal-back : (why : Refusal) → refusalBy (refusalNumber why) ≡ why
-refusal-back Shape = refl
-refusal-back Cursor = refl
-refusal-back Limits = refl
-refusal-back Book = refl
-refusal-back Match = refl
 
 abbrev endingBy : ℕ → Ending
 endingBy n = cond (eqb n 8) Short (cond (eqb n 9) Deep (cond (eqb n 10) Full Finished))
@@ -68,18 +59,13 @@ pub no-values : (v : Stage) (done coming : List ℕ) (r : RunAnswer) → Whole v
 no-values v done coming r w n e = let none = ap (λ (x : Reply). length (x .values)) (rw (w .ending) at e) in omega arith
 
 -- a number with no values is a refusal's
-pub told-refused : (k : Checked) (v : Stage) (done coming done′ coming′ : List ℕ) (r : RunAnswer) (why : Refusal) → Said k v done coming done′ coming′ r
-    → (runReply r ≡ record { number = refusalNumber why; values = [] }) ↔ (k ≡ Checked.Refused why)
-told-refused (Checked.Refused w) v done coming done′ coming′ r why s = (
-  λ e.
-      let same : refusalNumber w ≡ refusalNumber why = ap (λ (x : Reply). x .number) (sym (refused-reply r w (s .0)) ∙ e) in
-      ap Checked.Refused (sym (refusal-back w) ∙ ap refusalBy same ∙ refusal-back why),
-  λ e. let same : w ≡ why = cc in refused-reply r why (s .0 ∙ ap refusedBy same),
+pub told-refused : (k : Checked) (v : Stage) (done coming done′ coming′ : List ℕ) (r : RunAnswer) (n : ℕ) → Said k v done coming done′ coming′ r
+    → (runReply r ≡ record { number = n; values = [] }) ↔ (checkedNumber k ≡ some n)
+told-refused (Checked.Refused w) v done coming done′ coming′ r n s = (
+  λ e. ap some (ap (λ (x : Reply). x .number) (sym (refused-reply r w (s .0)) ∙ e)),
+  λ e. refused-reply r w (s .0) ∙ (λ j. record { number = Option·some-inj .0 e j; values = [] }),
 )
-told-refused Checked.Accepted v done coming done′ coming′ r why s = (
-  λ e. absurd (no-values v done′ coming′ r s (refusalNumber why) e),
-  λ e. let z : _≡_ {A = ℕ} 0 1 = cc in absurd (omega arith),
-)
+told-refused Checked.Accepted v done coming done′ coming′ r n s = (λ e. absurd (no-values v done′ coming′ r s n e), λ e. absurd (Option·none-ne-some n e))
 
 -- an ending's number is that ending's
 pub told-ended : (k : Checked) (v : Stage) (done coming done′ coming′ : List ℕ) (r : RunAnswer) (e : Ending) → Said k v done coming done′ coming′ r

@@ -1,35 +1,36 @@
--- The run's refusals as 01's table has them ("When the desk says no"): each number exactly when its line holds and no line before it does, in the
--- order 1, 2, 12, 11, 7; and accepted exactly when none holds. Each record here says what its line lets pass: the line holds where that isn't so.
-use mathlib.Core.Path.{_≡_, refl, sym, subst, _∙_}
-use mathlib.Core.Bool.{Bool, true, false, cond, _&&_, _||_, true≢false}
+-- The run's refusals as 01's table has them ("When the desk says no"): the code's tests tell the lines 1, 2, 12, 11 and 7, so a call is refused by the first line that
+-- refuses, and accepted exactly when each lets pass (Order).
+use mathlib.Core.Path.{_≡_, refl, sym, ap, _∙_}
+use mathlib.Core.Bool.{Bool, true, false, cond, not, _&&_, _||_, true≢false}
 use mathlib.Core.List.{List, [], _∷_}
-use mathlib.Core.Logic.{_↔_, _⊎_, inl, inr, ⊎-elim}
+use mathlib.Core.Logic.{_↔_}
+use mathlib.Core.Option.{none, some, Option·some-ne-none}
 use Prim.Native.Nat.{ℕ, zero, suc, _+_, _-_, _*_, _%_, _≤_, _<_}
 use native.Mathlib.Omega.{arith}
-use borrow.Author.Tests.{le-leb, lt-leb, lt-ltb, eq-eqb, ne-eqb, leb-true, leb-false, ltb-true, eqb-true, not-false}
+use borrow.Author.Tests.{le-leb, lt-ltb, eq-eqb, ne-eqb, leb-true, ltb-true, eqb-true, not-false}
 use lib.Dec.{eqb, leb, ltb}
 use lib.ListN.{length, getD, take}
 use lib.Seq.{getD-take}
-use Rattle.bits.specs.Laws.{and-left, and-right, or-left, or-right}
+use Rattle.bits.specs.Laws.{and-left, and-right}
 use Rattle.glyph.specs.Glyph.{words, limit}
 use Rattle.glyph.specs.Sets.{oddSets}
-use Rattle.glyph.specs.Tests.{tests-by, both, over, paired}
+use Rattle.glyph.specs.Tests.{both, at-or-past, over, paired}
+use Rattle.glyph.specs.Order.{firstOf, RefusedBy, Tested, testsOf, refused-exactly, through-exactly}
 use Rattle.text.specs.declared.Place.{Place}
-use Rattle.text.specs.Text.{unfit, wrongLength, pastEnd}
+use Rattle.text.specs.Text.{Fits, unfit, wrongLength, pastEnd}
 use Rattle.matching.specs.declared.InputAnswer.{InputAnswer}
 use Rattle.matching.specs.declared.InputMatch.{InputMatch}
 use Rattle.matching.specs.Take.{slots}
-use Rattle.book.specs.Book.{Lookup, mostRecords, Reading, Reads, Unreadable, readBook, isRead}
+use Rattle.book.specs.Book.{mostRecords, Reading, Reads, Unreadable, readBook, isRead}
+use Rattle.book.specs.Encode.{Narrow}
+use Rattle.book.specs.Only.{reads-exactly}
 use Rattle.nested.specs.declared.Refusal.the-variants.{Shape, Cursor, Limits, Book, Match}
 use Rattle.nested.specs.declared.Checked.{Checked}
-use Rattle.nested.specs.Calls.{badRecords, checkedFirst, checkedPlaces, checkedMatch, checkedBook, checkedAll, then, risesTo, goodPlaces}
-use Rattle.nested.specs.Lines.{Shaped, Inside, Limited, Beyond, placesOf, Usable}
+use Rattle.nested.specs.Calls.{badRecords, checkedFirst, checkedPlaces, checkedMatch, checkedAll, then, risesTo, goodPlaces, refusalNumber, checkedNumber}
+use Rattle.nested.specs.Lines.{Shaped, Inside, Limited, Legible, placesOf, Usable}
+use Rattle.nested.specs.Handed.{Handed, checkedOf, ShapedOf, runLines, Acceptable}
 use Rattle.nested.specs.CallLaws.{places-show}
 use Rattle.runs.specs.Run.{mostAllowance, mostDepth}
-
--- line 11, as the code tests it; for which words that is so: book's `reads-exactly`
-abbrev pub Readable : List ℕ → Type 0
-Readable book = (ls : List Lookup) × (readBook book ≡ Reads ls)
 
 -- ---- the tests tell the lines
 
@@ -42,9 +43,9 @@ module _ (done coming : List ℕ) (p : Place) (sets records : List ℕ) where
 
   shaped : (bad1 ≡ false) ↔ Shaped done coming p sets records
   shaped =
-      let r = both (oddSets records) (ltb (2 * mostRecords) (length records)) (paired records) (over (2 * mostRecords) (length records) .good) in
+      let r = both (oddSets records) (ltb (2 * mostRecords) (length records)) (paired records) (over (2 * mostRecords) (length records)) in
       let o = both (oddSets sets) (badRecords records) (paired sets) r in
-      let d = both (ltb limit (p .d)) (ltb (p .idx) (p .d)) (over limit (p .d) .good) (over (p .idx) (p .d) .good) in
+      let d = both (ltb limit (p .d)) (ltb (p .idx) (p .d)) (over limit (p .d)) (over (p .idx) (p .d)) in
       let u = both (wrongLength done) (wrongLength coming || (ltb limit (p .d) || ltb (p .idx) (p .d))) (long done) (both (wrongLength coming) (ltb limit (p .d) || ltb (p .idx) (p .d)) (long coming) d) in
       let all = both (unfit done coming p) (oddSets sets || badRecords records) u o in (
         λ e. let h = all .0 e in record {
@@ -64,19 +65,19 @@ module _ (allowance depth : ℕ) where
   bad12 = ltb mostAllowance allowance || ltb mostDepth depth
 
   limited : (bad12 ≡ false) ↔ Limited allowance depth
-  limited = both (ltb mostAllowance allowance) (ltb mostDepth depth) (over mostAllowance allowance .good) (over mostDepth depth .good)
+  limited = both (ltb mostAllowance allowance) (ltb mostDepth depth) (over mostAllowance allowance) (over mostDepth depth)
 
-  beyond : (bad12 ≡ true) ↔ Beyond allowance depth
-  beyond = (
-    by (ltb mostAllowance allowance) refl,
-    ⊎-elim
-        (λ h. or-left (ltb mostAllowance allowance) (ltb mostDepth depth) (lt-ltb mostAllowance allowance h))
-        (λ h. or-right (ltb mostAllowance allowance) (ltb mostDepth depth) (lt-ltb mostDepth depth h)),
-  )
+-- the book's words
+module _ (book : List ℕ) (w : Narrow book) where
+  pub reads : Legible book → isRead (readBook book) ≡ true
+  reads g = ap isRead (reads-exactly book (g .0) w .1 (g .1))
+
+  legible : (not (isRead (readBook book)) ≡ false) ↔ Legible book
+  legible = (by (readBook book) refl, λ g. ap not (reads g))
     where
-      by : (b : Bool) → ltb mostAllowance allowance ≡ b → (b || ltb mostDepth depth) ≡ true → Beyond allowance depth
-      by true e h = inl (ltb-true mostAllowance allowance e)
-      by false e h = inr (ltb-true mostDepth depth h)
+      by : (k : Reading) → readBook book ≡ k → not (isRead k) ≡ false → Legible book
+      by (Reads ls) e n = (ls, reads-exactly book ls w .0 e)
+      by Unreadable e n = absurd (true≢false n)
 
 -- ---- positions that rise, by their numbers
 
@@ -118,6 +119,10 @@ rises-then low end (p ∷ ps) r =
       below = λ i h. r .below (suc i) (omega arith);
     }))
 
+abbrev isRefused : Checked → Bool
+isRefused Checked.Accepted = false
+isRefused (Checked.Refused why) = true
+
 module _ (idx : ℕ) (m : InputMatch) where
   -- the test of line 7
   usable-by : (end total : ℕ) → m .answer ≡ InputAnswer.Matched end total → goodPlaces idx end (m .count) (m .positions) ≡ true → Usable idx m
@@ -158,124 +163,84 @@ module _ (idx : ℕ) (m : InputMatch) where
   match-accepted : Usable idx m → checkedMatch idx m ≡ Checked.Accepted
   match-accepted u = rw (u .success, good-by u)
 
+  abbrev bad7 : Bool
+  bad7 = isRefused (checkedMatch idx m)
+
+  usable : (bad7 ≡ false) ↔ Usable idx m
+  usable = (by (m .answer) refl, λ u. ap isRefused (match-accepted u))
+    where
+      good : (end total : ℕ) → m .answer ≡ InputAnswer.Matched end total → (g : Bool) → goodPlaces idx end (m .count) (m .positions) ≡ g
+          → isRefused (cond g Checked.Accepted (Checked.Refused Match)) ≡ false → Usable idx m
+      good end total e true g n = usable-by end total e g
+      good end total e false g n = absurd (true≢false n)
+
+      by : (a : InputAnswer) → m .answer ≡ a → isRefused (checkedPlaces idx a (m .count) (m .positions)) ≡ false → Usable idx m
+      by (InputAnswer.Matched end total) e n = good end total e (goodPlaces idx end (m .count) (m .positions)) refl n
+      by (InputAnswer.Refused why) e n = absurd (true≢false n)
+      by (InputAnswer.Lost extent) e n = absurd (true≢false n)
+      by InputAnswer.Ligature e n = absurd (true≢false n)
+
+  -- by 7, and no other
+  number-7 : checkedNumber (checkedMatch idx m) ≡ cond bad7 (some 7) none
+  number-7 = by (m .answer)
+    where
+      good : (g : Bool) → checkedNumber (cond g Checked.Accepted (Checked.Refused Match)) ≡ cond (isRefused (cond g Checked.Accepted (Checked.Refused Match))) (some 7) none
+      good true = refl
+      good false = refl
+
+      by : (a : InputAnswer) → checkedNumber (checkedPlaces idx a (m .count) (m .positions)) ≡ cond (isRefused (checkedPlaces idx a (m .count) (m .positions))) (some 7) none
+      by (InputAnswer.Matched end total) = good (goodPlaces idx end (m .count) (m .positions))
+      by (InputAnswer.Refused why) = refl
+      by (InputAnswer.Lost extent) = refl
+      by InputAnswer.Ligature = refl
+
 -- ---- the table
 
-module _ (done coming : List ℕ) (p : Place) (sets book records : List ℕ) (m : InputMatch) (allowance depth : ℕ) where
-  abbrev S : Type 0
-  S = Shaped done coming p sets records
+-- the tests, one after another
+in-order : (a b c r z : Bool) (k : Checked) → checkedNumber k ≡ cond z (some 7) none
+    → checkedNumber (then (cond a (Checked.Refused Shape) (cond b (Checked.Refused Cursor) (cond c (Checked.Refused Limits) Checked.Accepted))) (then (cond r Checked.Accepted (Checked.Refused Book)) k))
+    ≡ cond a (some 1) (cond b (some 2) (cond c (some 12) (cond (not r) (some 11) (cond z (some 7) none))))
+in-order true b c r z k e = refl
+in-order false true c r z k e = refl
+in-order false false true r z k e = refl
+in-order false false false false z k e = refl
+in-order false false false true z k e = e
 
-  abbrev bad : Bool
-  bad = bad1 done coming p sets records
+-- an accepted call has no number
+accepted-by : (k : Checked) → (k ≡ Checked.Accepted) ↔ (checkedNumber k ≡ none)
+accepted-by Checked.Accepted = (λ e. refl, λ e. refl)
+accepted-by (Checked.Refused why) = (λ e. ap checkedNumber e, λ e. absurd (Option·some-ne-none (refusalNumber why) e))
 
-  abbrev L : Type 0
-  L = Limited allowance depth
+module _ (h : Handed) (allowance depth : ℕ) (w : Narrow (h .book)) where
+  -- 01's lines in their order, each with the code's test
+  abbrev tests : List Tested
+  tests =
+      record { test = bad1 (h .done) (h .coming) (h .place) (h .sets) (h .records); line = record { number = 1; lets = ShapedOf h }; tells = shaped (h .done) (h .coming) (h .place) (h .sets) (h .records) }
+      ∷ record { test = pastEnd (h .place); line = record { number = 2; lets = Inside (h .place) }; tells = at-or-past limit (h .place .idx) }
+      ∷ record { test = bad12 allowance depth; line = record { number = 12; lets = Limited allowance depth }; tells = limited allowance depth }
+      ∷ record { test = not (isRead (readBook (h .book))); line = record { number = 11; lets = Legible (h .book) }; tells = legible (h .book) w }
+      ∷ record { test = bad7 (h .place .idx) (h .match); line = record { number = 7; lets = Usable (h .place .idx) (h .match) }; tells = usable (h .place .idx) (h .match) }
+      ∷ []
 
-  -- what was found, by its line
-  data Line : Checked → Type 0 where
-    line-1 : (S → ⊥) → Line (Checked.Refused Shape)
-    line-2 : S → limit ≤ p .idx → Line (Checked.Refused Cursor)
-    line-12 : S → Inside p → Beyond allowance depth → Line (Checked.Refused Limits)
-    line-11 : S → Inside p → L → readBook book ≡ Unreadable → Line (Checked.Refused Book)
-    line-7 : S → Inside p → L → Readable book → (Usable (p .idx) m → ⊥) → Line (Checked.Refused Match)
-    no-line : S → Inside p → L → Readable book → Usable (p .idx) m → Line Checked.Accepted
+  first : checkedNumber (checkedOf h allowance depth) ≡ firstOf (testsOf tests)
+  unfolding checkedAll checkedFirst firstOf
+  first =
+      in-order (bad1 (h .done) (h .coming) (h .place) (h .sets) (h .records)) (pastEnd (h .place)) (bad12 allowance depth) (isRead (readBook (h .book))) (bad7 (h .place .idx) (h .match))
+      (checkedMatch (h .place .idx) (h .match)) (number-7 (h .place .idx) (h .match))
 
-  module _ (s : S) (i : Inside p) (l : L) where
-    module _ (b : Readable book) where
-      line-by-places : (end total : ℕ) → m .answer ≡ InputAnswer.Matched end total → (g : Bool) → goodPlaces (p .idx) end (m .count) (m .positions) ≡ g
-          → Line (cond g Checked.Accepted (Checked.Refused Match))
-      line-by-places end total e true g = no-line s i l b (usable-by (p .idx) m end total e g)
-      line-by-places end total e false g =
-          line-7 s i l b
-          (λ u. let same = sym e ∙ u .success in let z : end ≡ u .end = cc in true≢false (sym (good-by (p .idx) m u) ∙ rw z at g))
+  -- refused by the first line that refuses
+  pub refused : (n : ℕ) → (checkedNumber (checkedOf h allowance depth) ≡ some n) ↔ RefusedBy n (runLines h allowance depth)
+  refused n = let t = refused-exactly tests n in (λ e. t .0 (sym first ∙ e), λ r. first ∙ t .1 r)
 
-      -- no success
-      line-else : (a : InputAnswer) → m .answer ≡ a → ((end total : ℕ) → a ≡ InputAnswer.Matched end total → ⊥) → Line (Checked.Refused Match)
-      line-else a e n = line-7 s i l b (λ u. n (u .end) (u .total) (sym e ∙ u .success))
+  -- and by none exactly when each lets pass
+  pub accepted : (checkedOf h allowance depth ≡ Checked.Accepted) ↔ Acceptable h allowance depth
+  accepted =
+      let k = accepted-by (checkedOf h allowance depth) in
+      let t = through-exactly tests in (
+        λ e. let s = t .0 (sym first ∙ k .0 e) in record { shaped = s .0; inside = s .1 .0; limited = s .1 .1 .0; legible = s .1 .1 .1 .0; usable = s .1 .1 .1 .1 .0 },
+        λ s. k .1 (first ∙ t .1 (s .shaped, (s .inside, (s .limited, (s .legible, (s .usable, tt)))))),
+      )
 
-      line-by-answer : (a : InputAnswer) → m .answer ≡ a → Line (checkedPlaces (p .idx) a (m .count) (m .positions))
-      line-by-answer (InputAnswer.Matched end total) e = line-by-places end total e (goodPlaces (p .idx) end (m .count) (m .positions)) refl
-      line-by-answer (InputAnswer.Refused why) e = line-else (InputAnswer.Refused why) e (λ end total q. let z : _≡_ {A = ℕ} 0 1 = cc in omega arith)
-      line-by-answer (InputAnswer.Lost extent) e = line-else (InputAnswer.Lost extent) e (λ end total q. let z : _≡_ {A = ℕ} 0 1 = cc in omega arith)
-      line-by-answer InputAnswer.Ligature e = line-else InputAnswer.Ligature e (λ end total q. let z : _≡_ {A = ℕ} 0 1 = cc in omega arith)
-
-    line-by-book : (k : Reading) → readBook book ≡ k → Line (then (cond (isRead k) Checked.Accepted (Checked.Refused Book)) (checkedMatch (p .idx) m))
-    line-by-book (Reads ls) e = line-by-answer (ls, e) (m .answer) refl
-    line-by-book Unreadable e = line-11 s i l e
-
-  line-by : (a b c : Bool) → bad ≡ a → pastEnd p ≡ b → bad12 allowance depth ≡ c
-      → Line (then (cond a (Checked.Refused Shape) (cond b (Checked.Refused Cursor) (cond c (Checked.Refused Limits) Checked.Accepted))) (then (checkedBook book) (checkedMatch (p .idx) m)))
-  line-by true b c ea eb ec = line-1 (λ s. true≢false (sym ea ∙ shaped done coming p sets records .1 s))
-  line-by false true c ea eb ec = line-2 (shaped done coming p sets records .0 ea) (leb-true limit (p .idx) eb)
-  line-by false false true ea eb ec = line-12 (shaped done coming p sets records .0 ea) (leb-false limit (p .idx) eb) (beyond allowance depth .0 ec)
-  line-by false false false ea eb ec =
-      line-by-book (shaped done coming p sets records .0 ea) (leb-false limit (p .idx) eb) (limited allowance depth .0 ec) (readBook book) refl
-
-  abbrev checked : Checked
-  checked = checkedAll done coming p sets book records m allowance depth
-
-  line : Line checked
-  unfolding checkedAll checkedFirst
-  line = line-by bad (pastEnd p) (bad12 allowance depth) refl refl refl
-
-  pub refused-1 : (checked ≡ Checked.Refused Shape) ↔ (Shaped done coming p sets records → ⊥)
-  unfolding checkedAll checkedFirst
-  refused-1 = (λ e. of (subst Line e line), λ n. rw (tests-by bad (shaped done coming p sets records) .bad .1 n))
-    where
-      of : Line (Checked.Refused Shape) → S → ⊥
-      of (line-1 n) = n
-
-  pub refused-2 : (checked ≡ Checked.Refused Cursor) ↔ (Shaped done coming p sets records × (limit ≤ p .idx))
-  unfolding checkedAll checkedFirst
-  refused-2 = (λ e. of (subst Line e line), λ h. rw (shaped done coming p sets records .1 (h .0), le-leb limit (p .idx) (h .1)))
-    where
-      of : Line (Checked.Refused Cursor) → S × (limit ≤ p .idx)
-      of (line-2 s i) = (s, i)
-
-  pub refused-12 : (checked ≡ Checked.Refused Limits) ↔ (Shaped done coming p sets records × (p .idx < limit) × Beyond allowance depth)
-  unfolding checkedAll checkedFirst
-  refused-12 = (
-    λ e. of (subst Line e line),
-    λ h. rw (shaped done coming p sets records .1 (h .0), lt-leb limit (p .idx) (h .1), beyond allowance depth .1 (h .2)),
-  )
-    where
-      of : Line (Checked.Refused Limits) → S × (p .idx < limit) × Beyond allowance depth
-      of (line-12 s i l) = (s, i, l)
-
-  pub refused-11 : (checked ≡ Checked.Refused Book) ↔ (Shaped done coming p sets records × (p .idx < limit) × Limited allowance depth × (readBook book ≡ Unreadable))
-  unfolding checkedAll checkedFirst
-  refused-11 = (
-    λ e. of (subst Line e line),
-    λ h. rw (shaped done coming p sets records .1 (h .0), lt-leb limit (p .idx) (h .1), limited allowance depth .1 (h .2), h .3),
-  )
-    where
-      of : Line (Checked.Refused Book) → S × (p .idx < limit) × L × (readBook book ≡ Unreadable)
-      of (line-11 s i l b) = (s, i, l, b)
-
-  -- past 1, 2, 12 and 11 the match decides
-  by-match : S → Inside p → L → Readable book → checked ≡ checkedMatch (p .idx) m
-  unfolding checkedAll checkedFirst
-  by-match s i l b = rw (shaped done coming p sets records .1 s, lt-leb limit (p .idx) i, limited allowance depth .1 l, b .1)
-
-  match-refused : (k : Checked) → Line k → S → Inside p → L → Readable book → (Usable (p .idx) m → ⊥) → k ≡ Checked.Refused Match
-  match-refused (Checked.Refused Shape) (line-1 n) s i l b u = absurd (n s)
-  match-refused (Checked.Refused Cursor) (line-2 t n) s i l b u = absurd (omega arith)
-  match-refused (Checked.Refused Limits) (line-12 t j n) s i l b u = absurd (⊎-elim (λ h. let k = l .0 in omega arith) (λ h. let k = l .1 in omega arith) n)
-  match-refused (Checked.Refused Book) (line-11 t j k n) s i l b u = let same = sym n ∙ b .1 in let z : _≡_ {A = ℕ} 0 1 = cc in absurd (omega arith)
-  match-refused (Checked.Refused Match) (line-7 t j k a n) s i l b u = refl
-  match-refused Checked.Accepted (no-line t j k a n) s i l b u = absurd (u n)
-
-  pub refused-7 : (checked ≡ Checked.Refused Match) ↔ (Shaped done coming p sets records × (p .idx < limit) × Limited allowance depth × Readable book × (Usable (p .idx) m → ⊥))
-  refused-7 = (
-    λ e. of (subst Line e line),
-    λ h. match-refused checked line (h .0) (h .1) (h .2) (h .3) (h .4),
-  )
-    where
-      of : Line (Checked.Refused Match) → S × (p .idx < limit) × L × Readable book × (Usable (p .idx) m → ⊥)
-      of (line-7 s i l b u) = (s, i, l, b, u)
-
-  -- and nothing else is refused
-  pub accepted : (checked ≡ Checked.Accepted) ↔ (Shaped done coming p sets records × (p .idx < limit) × Limited allowance depth × Readable book × Usable (p .idx) m)
-  accepted = (λ e. of (subst Line e line), λ h. by-match (h .0) (h .1) (h .2) (h .3) ∙ match-accepted (p .idx) m (h .4))
-    where
-      of : Line Checked.Accepted → S × (p .idx < limit) × L × Readable book × Usable (p .idx) m
-      of (no-line s i l b u) = (s, i, l, b, u)
+-- rows that line 1 and 2 let pass can hold a text
+pub fits-of : (h : Handed) → ShapedOf h → Inside (h .place) → Fits (h .done) (h .coming) (h .place)
+fits-of h s i = let u = s .text-inside in record { long = s .done-long; wide = s .coming-long; within = omega arith; room = omega arith }
