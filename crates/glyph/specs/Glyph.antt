@@ -1,5 +1,5 @@
 -- A row of words as a list of glyphs, and the shape that a row must have (01, "A glyph in four words"; refusal 1).
-use Prim.Native.Nat.{ℕ, zero, suc, _*_, _/_, _%_}
+use Prim.Native.Nat.{ℕ, zero, suc, _+_, _*_, _/_, _%_, _<_}
 use mathlib.Core.Path.{_≡_}
 use mathlib.Core.Bool.{Bool, not, _||_}
 use mathlib.Core.List.{List, [], _∷_}
@@ -32,6 +32,27 @@ glyphOf w =
       count = lig / 256 % 256;
       ligated = lig % 256;
     }
+
+-- the words of a glyph
+unfoldable pub wordsOf : Glyph → List ℕ
+wordsOf g =
+    g .id ∷
+    g .mask ∷
+    (g .flags * 16777216 + g .syllable * 65536 + g .props) ∷
+    (g .lig * 16777216 + g .comp * 65536 + g .count * 256 + g .ligated) ∷
+    []
+
+-- each field fits the bits that it has in its word, as a glyph of the code does by its types
+pub record Fields (g : Glyph) : Type 0 where
+  pub of-id : g .id < 4294967296
+  pub of-mask : g .mask < 4294967296
+  pub of-flags : g .flags < 256
+  pub of-syllable : g .syllable < 256
+  pub of-props : g .props < 65536
+  pub of-lig : g .lig < 256
+  pub of-comp : g .comp < 256
+  pub of-count : g .count < 256
+  pub of-ligated : g .ligated < 256
 
 -- n glyphs, from the first word on
 unfoldable pub glyphs : ℕ → List ℕ → List Glyph

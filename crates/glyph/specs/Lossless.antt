@@ -1,22 +1,14 @@
 -- A glyph keeps all of its words: writing them back gives the row, so rows of the same glyphs are the same words.
-use mathlib.Core.Path.{_≡_, sym, ap, _∙_}
+-- And the words of a glyph are read as that glyph.
+use mathlib.Core.Path.{_≡_, refl, sym, ap, _∙_}
 use mathlib.Core.List.{List, [], _∷_, _++_}
 use Prim.Native.Nat.{ℕ, zero, suc, _+_, _*_, _/_, _%_, _≤_, _<_}
 use native.Mathlib.Omega.{arith}
 use lib.ListN.{length, getD, take, drop, length-drop, take-append-drop}
 use lib.Seq.{drop-cons, drop-length, getD-take, getD-drop, length-take-le}
 use Rattle.glyph.specs.declared.Glyph.{Glyph}
-use Rattle.glyph.specs.Glyph.{words, glyphOf, glyphsOf, Row}
+use Rattle.glyph.specs.Glyph.{words, glyphOf, wordsOf, Fields, glyphsOf, Row}
 use Rattle.glyph.specs.Laws.{glyphsOf-nil, glyphsOf-cons}
-
--- the words of a glyph
-unfoldable pub wordsOf : Glyph → List ℕ
-wordsOf g =
-    g .id ∷
-    g .mask ∷
-    (g .flags * 16777216 + g .syllable * 65536 + g .props) ∷
-    (g .lig * 16777216 + g .comp * 65536 + g .count * 256 + g .ligated) ∷
-    []
 
 -- the words of a list of glyphs
 unfoldable pub rowOf : List Glyph → List ℕ
@@ -53,6 +45,33 @@ unfolding wordsOf
 words-back w e h =
     (λ j. getD w 0 0 ∷ getD w 1 0 ∷ halves (getD w 2 0) (h 2 (omega arith)) j ∷ bytes (getD w 3 0) (h 3 (omega arith)) j ∷ [])
     ∙ spelled-is words 0 w (omega arith)
+
+pub length-wordsOf : (g : Glyph) → length (wordsOf g) ≡ words
+unfolding wordsOf
+length-wordsOf g = refl
+
+-- a glyph's words are read as that glyph
+pub glyph-back : (g : Glyph) → Fields g → glyphOf (wordsOf g) ≡ g
+unfolding wordsOf
+glyph-back g f =
+    let flags : glyphOf (wordsOf g) .flags ≡ g .flags = omega arith in
+    let syllable : glyphOf (wordsOf g) .syllable ≡ g .syllable = omega arith in
+    let props : glyphOf (wordsOf g) .props ≡ g .props = omega arith in
+    let lig : glyphOf (wordsOf g) .lig ≡ g .lig = omega arith in
+    let comp : glyphOf (wordsOf g) .comp ≡ g .comp = omega arith in
+    let count : glyphOf (wordsOf g) .count ≡ g .count = omega arith in
+    let ligated : glyphOf (wordsOf g) .ligated ≡ g .ligated = omega arith in
+    λ j. record {
+      id = g .id;
+      mask = g .mask;
+      flags = flags j;
+      syllable = syllable j;
+      props = props j;
+      lig = lig j;
+      comp = comp j;
+      count = count j;
+      ligated = ligated j;
+    }
 
 pub row-back : (n : ℕ) (w : List ℕ) → Row n w → Small w → rowOf (glyphsOf w) ≡ w
 unfolding rowOf

@@ -1,16 +1,17 @@
--- What a change of words at a glyph's first word does to the glyphs: glyphs copied, an id stored, glyphs made blank.
+-- What a change of words at a glyph's first word does to the glyphs: glyphs copied, one glyph stored, glyphs made blank.
 use mathlib.Core.Path.{_≡_, refl, sym, ap, _∙_}
 use mathlib.Core.List.{List, [], _∷_, _++_}
 use Prim.Native.Nat.{ℕ, zero, suc, _+_, _*_, _≤_, _<_}
-use native.Mathlib.Nat.{add-zero}
+use native.Mathlib.Nat.{add-suc}
 use native.Mathlib.Numerals.{add-one}
 use native.Mathlib.Omega.{arith}
-use lib.ListN.{length, getD, set, take, drop, replicate, length-append, length-drop, length-set, take-append-drop, length-replicate, getD-replicate, replicate-append-replicate}
-use lib.Seq.{length-take-le, set-at, getD-drop, getD-set-same, set-set, take-set-le, take-set-lt, drop-set-lt, drop-set-add, paste, paste-zero, paste-suc}
+use lib.ListN.{length, getD, set, take, drop, replicate, length-append, length-drop, drop-of-length-le, length-replicate}
+use lib.ListN.{getD-replicate, replicate-append-replicate}
+use lib.Seq.{length-take-le, take-all, append-snoc, set-split, getD-drop, sets, sets-eq, paste, paste-suc}
 use Rattle.glyph.specs.declared.Glyph.{Glyph}
-use Rattle.glyph.specs.Glyph.{words, glyphOf, glyphs, glyphsOf, zeros, blank}
-use Rattle.glyph.specs.Laws.{length-glyphsOf, glyphsOf-append, take-glyphsOf, drop-glyphsOf, glyphsOf-cons, getD-glyphsOf, parted, length-front}
-use Rattle.glyph.specs.Write.{withId}
+use Rattle.glyph.specs.Glyph.{words, glyphOf, wordsOf, Fields, glyphs, glyphsOf, zeros, blank}
+use Rattle.glyph.specs.Laws.{length-glyphsOf, glyphsOf-append, take-glyphsOf, drop-glyphsOf, glyphsOf-nil, glyphsOf-cons}
+use Rattle.glyph.specs.Lossless.{length-wordsOf, glyph-back}
 
 -- n glyphs copied over those from glyph j on
 pub paste-glyphsOf : (w : List ℕ) (j : ℕ) (s : List ℕ) (n : ℕ) → words * j + words * n ≤ length w → words * n ≤ length s
@@ -42,46 +43,58 @@ copied-glyphsOf w from j i n h k =
     paste-glyphsOf w j (drop (words * i) from) n h (simp length-drop (omega arith))
     ∙ ap (λ (s : List Glyph). paste (glyphsOf w) j s n) (sym (drop-glyphsOf i from (omega arith)))
 
--- a word of the first glyph stored
-set-first : (w : List ℕ) (k v : ℕ) → words ≤ length w → k < words
-    → glyphsOf (set w k v) ≡ glyphOf (set (take words w) k v) ∷ glyphsOf (drop words w)
-set-first w k v h l =
-    glyphsOf-cons (set w k v) (rw length-set h)
-    ∙ rw (take-set-lt words w k v l, drop-set-lt words w k v l)
+-- one glyph pasted
+paste-one : (D : List Glyph) (i : ℕ) (g : Glyph) → i < length D → paste D i (g ∷ []) 1 ≡ set D i g
+paste-one D i g h =
+    append-snoc (take i D) g (drop (i + 1) D)
+    ∙ ap (λ (n : ℕ). take i D ++ g ∷ drop n D) (add-one i)
+    ∙ sym (set-split D i g h)
 
--- word k of glyph i stored
-pub set-glyphsOf : (w : List ℕ) (i k v : ℕ) → words * i + words ≤ length w → k < words
-    → glyphsOf (set w (words * i + k) v) ≡ set (glyphsOf w) i (glyphOf (set (take words (drop (words * i) w)) k v))
-set-glyphsOf w i k v h l =
-    let x : ℕ = words * i in
-    let m : words ≤ length (drop (words * i) w) = simp length-drop (omega arith) in
-    let f : length (take (words * i) w) ≡ words * i = length-take-le (words * i) w (omega arith) in
-    let G : Glyph = glyphOf (set (take words (drop (words * i) w)) k v) in
-    let R : List Glyph = glyphsOf (drop words (drop (words * i) w)) in
-    let L : List Glyph = glyphsOf (take (words * i) w) in
-    let a : glyphsOf (set w (words * i + k) v) ≡ L ++ G ∷ R =
-    ap glyphsOf (sym (take-append-drop (words * i) (set w (words * i + k) v)))
-    ∙ rw (take-set-le (words * i) w (words * i + k) v (omega arith), drop-set-add (words * i) w k v)
-    (glyphsOf-append i (take (words * i) w) (set (drop (words * i) w) k v) f ∙ rw (set-first (drop (words * i) w) k v m l)) in
-    let b : glyphsOf w ≡ L ++ glyphOf (take words (drop (words * i) w)) ∷ R =
-    parted i w (omega arith) ∙ rw (glyphsOf-cons (drop (words * i) w) m) in
-    a ∙ sym (ap (λ (g : List Glyph). set g i G) b ∙ set-at L (glyphOf (take words (drop (words * i) w))) R G i (length-front i w (omega arith)))
+-- the words of one glyph
+glyphsOf-one : (s : List ℕ) → length s ≡ words → glyphsOf s ≡ glyphOf s ∷ []
+glyphsOf-one s e =
+    let none : drop words s ≡ [] = drop-of-length-le s {i = words} (omega arith) in
+    glyphsOf-cons s (omega arith)
+    ∙ rw (take-all words s (omega arith), none, glyphsOf-nil)
 
--- word 0 is the id
-id-stored : (u : List ℕ) (v : ℕ) → 0 < length u → glyphOf (set u 0 v) ≡ withId v (glyphOf u)
-unfolding withId
-id-stored [] v h = let z : ⊥ = omega arith in absurd z
-id-stored (a ∷ u) v h = refl
+-- the words of one glyph pasted over those of glyph i
+pub pasted-glyph : (w : List ℕ) (i : ℕ) (s : List ℕ) → words * i + words ≤ length w → length s ≡ words
+    → glyphsOf (paste w (words * i) s words) ≡ set (glyphsOf w) i (glyphOf s)
+pasted-glyph w i s h e =
+    paste-glyphsOf w i s 1 h (omega arith)
+    ∙ ap (λ (G : List Glyph). paste (glyphsOf w) i G 1) (glyphsOf-one s e)
+    ∙ paste-one (glyphsOf w) i (glyphOf s) (omega (arith, length-glyphsOf w))
 
-pub set-id-glyphsOf : (w : List ℕ) (i v : ℕ) → words * i + words ≤ length w
-    → glyphsOf (set w (words * i) v) ≡ set (glyphsOf w) i (withId v (getD (glyphsOf w) i blank))
-set-id-glyphsOf w i v h =
-    let u : List ℕ = take words (drop (words * i) w) in
-    let l : 0 < length (take words (drop (words * i) w)) =
-    omega (arith, length-take-le words (drop (words * i) w) (simp length-drop (omega arith))) in
-    ap (λ (n : ℕ). glyphsOf (set w n v)) (sym (add-zero (words * i)))
-    ∙ set-glyphsOf w i 0 v h (omega arith)
-    ∙ rw (getD-glyphsOf w i h, id-stored (take words (drop (words * i) w)) v l)
+-- words stored one by one, as code does it: the first at word x, the next at x + 1, and so on. A literal list of them computes to the code's stores.
+abbrev putFrom : List ℕ → ℕ → ℕ → List ℕ → List ℕ
+putFrom w x k [] = w
+putFrom w x k (v ∷ s) = putFrom (set w (x + k) v) x (suc k) s
+
+abbrev pub putWords : List ℕ → ℕ → List ℕ → List ℕ
+putWords w x [] = w
+putWords w x (v ∷ s) = putFrom (set w x v) x 1 s
+
+putFrom-sets : (w : List ℕ) (x k : ℕ) (s : List ℕ) → putFrom w x k s ≡ sets w (x + k) s
+putFrom-sets w x k [] = refl
+putFrom-sets w x k (v ∷ s) =
+    putFrom-sets (set w (x + k) v) x (suc k) s
+    ∙ ap (λ (n : ℕ). sets (set w (x + k) v) n s) (add-suc x k)
+
+put-sets : (w : List ℕ) (x : ℕ) (s : List ℕ) → putWords w x s ≡ sets w x s
+put-sets w x [] = refl
+put-sets w x (v ∷ s) = putFrom-sets (set w x v) x 1 s ∙ ap (λ (n : ℕ). sets (set w x v) n s) (add-one x)
+
+put-paste : (w : List ℕ) (x : ℕ) (s : List ℕ) → x + length s ≤ length w → putWords w x s ≡ paste w x s (length s)
+put-paste w x s h = put-sets w x s ∙ sets-eq s w x h ∙ rw (take-all (length s) s (omega arith))
+
+-- the words of g stored from the first word of glyph i on
+pub put-glyph : (w : List ℕ) (i : ℕ) (g : Glyph) → words * i + words ≤ length w → Fields g
+    → glyphsOf (putWords w (words * i) (wordsOf g)) ≡ set (glyphsOf w) i g
+put-glyph w i g h f =
+    let e : length (wordsOf g) ≡ words = length-wordsOf g in
+    ap glyphsOf (put-paste w (words * i) (wordsOf g) (omega arith) ∙ ap (paste w (words * i) (wordsOf g)) e)
+    ∙ pasted-glyph w i (wordsOf g) h e
+    ∙ ap (set (glyphsOf w) i) (glyph-back g f)
 
 -- zeros are blank glyphs
 zeros-more : (n : ℕ) → zeros (words * suc n) ≡ zeros words ++ zeros (words * n)
@@ -109,15 +122,3 @@ clear-more w x n k h l =
     let m : k < length (zeros n) = rw length-replicate l in
     ap (λ (v : ℕ). set (paste w x (zeros n) k) (x + k) v) (sym e)
     ∙ rw (add-one, paste-suc w x (zeros n) k 0 h m)
-
--- one glyph copied, with another id
-pub written-glyph : (D C : List Glyph) (j i id : ℕ) → j < length D → i < length C
-    → set (paste D j (drop i C) 1) j (withId id (getD (paste D j (drop i C) 1) j blank)) ≡ set D j (withId id (getD C i blank))
-written-glyph D C j i id h k =
-    let l : 0 < length (drop i C) = simp length-drop (omega arith) in
-    let m : j + 0 < length D = omega arith in
-    let e : paste D j (drop i C) 1 ≡ set D j (getD C i blank) =
-    sym (paste-suc D j (drop i C) 0 blank m l)
-    ∙ ap (λ (P : List Glyph). set P (j + 0) (getD (drop i C) 0 blank)) (sym (paste-zero D j (drop i C)))
-    ∙ rw (getD-drop i C 0 blank, add-zero j, add-zero i) in
-    rw (e, getD-set-same D j (getD C i blank) blank h, set-set)

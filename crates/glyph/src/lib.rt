@@ -5,7 +5,6 @@ ghost use lib.ListN.{length, getD, set, take, drop, replicate};
 ghost use lib.Seq.{paste};
 ghost use Rattle.glyph.specs.Glyph.{glyphsOf, blank, illShaped};
 ghost use Rattle.glyph.specs.Sets.{inSet, oddSets};
-ghost use Rattle.glyph.specs.Write.{withId};
 
 pub const WORDS: usize = 4;
 
@@ -56,6 +55,21 @@ pub fn read(row: &[u32], i: usize) -> Glyph
         count: (lig / 256 % 256) as u8,
         ligated: (lig % 256) as u8,
     }
+}
+
+// Glyph i of the row becomes g: its words are stored, as `read` takes them apart.
+pub fn write(row: &mut [u32], i: usize, g: Glyph)
+    requires { ⌜ i < length (glyphsOf (now row)) ⌝ }
+    ensures { λ _. ⌜ glyphsOf (now (row .exit)) ≡ set (glyphsOf (now (row .entry))) i g ⌝ }
+{
+    let x = WORDS * i;
+    row[x] = g.id;
+    row[x + 1] = g.mask;
+    row[x + 2] = g.flags as u32 * 16777216 + g.syllable as u32 * 65536 + g.props as u32;
+    row[x + 3] = g.lig as u32 * 16777216
+        + g.comp as u32 * 65536
+        + g.count as u32 * 256
+        + g.ligated as u32;
 }
 
 // The first k glyphs of a row, as a part of it.
@@ -111,15 +125,6 @@ pub fn copy(to: &mut [u32], j: usize, from: &[u32], i: usize, n: usize)
         to[x + k] = from[y + k];
         k += 1;
     }
-}
-
-// Glyph i of the row gets the id.
-pub fn set_id(row: &mut [u32], i: usize, id: u32)
-    requires { ⌜ i < length (glyphsOf (now row)) ⌝ }
-    ensures { λ _. ⌜ glyphsOf (now (row .exit)) ≡ set (glyphsOf (now (row .entry))) i (withId id (getD (glyphsOf (now (row .entry))) i blank)) ⌝ }
-{
-    let x = WORDS * i;
-    row[x] = id;
 }
 
 // n glyphs of the row, from glyph j on, become blank.

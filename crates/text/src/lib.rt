@@ -102,8 +102,16 @@ fn write(to: &mut [u32], j: usize, from: &[u32], i: usize, id: u32)
     requires { ⌜ (j < length (glyphsOf (now to))) × (i < length (glyphsOf (now from))) ⌝ }
     ensures { λ _. ⌜ glyphsOf (now (to .exit)) ≡ set (glyphsOf (now (to .entry))) j (written id (getD (glyphsOf (now (from .entry))) i blank)) ⌝ }
 {
-    glyph::copy(to, j, from, i, 1);
-    glyph::set_id(to, j, id);
+    glyph::write(to, j, written(id, glyph::read(from, i)));
+}
+
+// What is written in place of the glyph g: it keeps everything but the id.
+fn written(id: u32, g: glyph::Glyph) -> glyph::Glyph
+    ensures { λ r. ⌜ r ≡ written id g ⌝ }
+{
+    let mut w = g;
+    w.id = id;
+    w
 }
 
 // The words in neither part become 0. This alone costs the rows' length; it is called once a run.
