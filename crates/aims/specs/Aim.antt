@@ -1,23 +1,22 @@
 -- The code's side: a chain at the cursor as the code keeps it: whether it matched, its level in slots, where its records are in the book.
-use mathlib.Core.Bool.{true, false, cond}
-use mathlib.Core.List.{List, []}
+use mathlib.Core.Bool.{true, false}
+use mathlib.Core.List.{List, [], map}
 use Prim.Native.Nat.{ℕ}
-use lib.Dec.{eqb}
-use lib.ListN.{getD}
-use Rattle.glyph.specs.Glyph.{blank}
 use Rattle.text.specs.Text.{Text}
-use Rattle.verdict.specs.Verdict.{Asked}
-use Rattle.matching.specs.declared.Lookup.{Lookup as Question}
+use Rattle.verdict.specs.declared.Test.{Test}
+use Rattle.verdict.specs.Verdict.{Asked, valueBy}
 use Rattle.book.specs.declared.Part.{Part}
 use Rattle.book.specs.declared.Entry.{Entry}
-use Rattle.book.specs.Book.{Kind3, recordsOf}
-use Rattle.book.specs.Places.{partOf}
+use Rattle.book.specs.Book.{Chain, recordsOf}
+use Rattle.book.specs.Places.{partOf, chainOf}
 use Rattle.runs.specs.declared.Given.{Given}
 use Rattle.runs.specs.Repair.{Level}
 use Rattle.runs.specs.Run.{Match, Matched, Unmatched}
-use Rattle.runs.specs.Chain.{chainMatch, inputAt, afterInput}
+use Rattle.runs.specs.Chain.{chainMatch}
+use Rattle.runs.specs.Deeds.{idsOf}
 use Rattle.levels.specs.Slots.{shown}
 use Rattle.aims.specs.declared.Aim.{Aim}
+use Rattle.aims.specs.declared.Tests.{Tests}
 
 -- no level
 abbrev pub noLevel : Level
@@ -30,15 +29,23 @@ abbrev pub aimAt : Part → Match → Aim
 aimAt records (Matched positions end) = record { hit = true; level = shown (record { live = true; positions = positions; end = end }); records = records }
 aimAt records Unmatched = noAim
 
--- `chainMatch` of a chain's parts
-abbrev pub matchOn : Question → List ℕ → (ℕ → Asked) → ℕ → List ℕ → List ℕ → List ℕ → Text → Match
-matchOn q sets test first back input onward t =
-    cond (eqb (getD (t .glyphs) (t .cursor) blank .id) first) (afterInput q sets test t back onward (inputAt q sets test t input)) Unmatched
+-- a chain as it is handed over, in parts: the values of each by the part's own test, the first glyph's by the input's, with the words lent beside them
+abbrev pub handedChain : Tests → List ℕ → ℕ → List ℕ → List ℕ → List ℕ → Part → Chain Asked
+handedChain tests lists first back input onward records = record {
+  first = valueBy (tests .input) lists first;
+  backtrack = map (valueBy (tests .backtrack) lists) back;
+  input = map (valueBy (tests .input) lists) input;
+  lookahead = map (valueBy (tests .lookahead) lists) onward;
+  records = recordsOf (partOf lists records);
+}
 
--- kind 3
+-- kind 3: ids all through
+abbrev pub byId : Tests
+byId = record { backtrack = Test.Equal; input = Test.Equal; lookahead = Test.Equal }
+
+-- the chain of an entry
 abbrev pub aimedAt : Given → List ℕ → List ℕ → Entry → Text → Aim
-aimedAt given sets ws (Entry.Chain props first back input onward records) t =
-    aimAt records (chainMatch given sets (Kind3 props first (partOf ws back) (partOf ws input) (partOf ws onward) (recordsOf (partOf ws records))) t)
+aimedAt given sets ws (Entry.Chain props parts) t = aimAt (parts .records) (chainMatch given sets props (idsOf (chainOf ws parts)) t)
 aimedAt given sets ws (Entry.One props from to) t = noAim
 aimedAt given sets ws (Entry.Many props from ids) t = noAim
 aimedAt given sets ws Entry.Missing t = noAim

@@ -23,7 +23,8 @@ use Rattle.matching.specs.Demand2Laws.{demand-2}
 use Rattle.matching.specs.Rising.{as-many, end-inside}
 use Rattle.matching.specs.Shift.{raisedAll, raisedBy, reached-shift, input-shift, ahead-shift}
 use Rattle.runs.specs.Run.{Matched, Unmatched, fromDone, movedLevel}
-use Rattle.runs.specs.Chain.{isTaken, inputAt, aheadAt, backAt, endAfter, afterInput}
+use Rattle.book.specs.Book.{Chain}
+use Rattle.runs.specs.Chain.{isTaken, itself, inputAt, aheadAt, backAt, endAfter, afterInput}
 
 -- ---- answers, by their cases
 
@@ -46,7 +47,7 @@ moved-all : (idx d : ℕ) (qs : List ℕ) → map (fromDone idx d) (raisedAll id
 moved-all idx d [] = refl
 moved-all idx d (q ∷ qs) = let e : d + (idx + q - idx) ≡ d + q = omega arith in ap₂ (λ (x : ℕ) (xs : List ℕ). x ∷ xs) e (moved-all idx d qs)
 
-module _ (done coming : List ℕ) (p : Place) (f : Fits done coming p) (q : Question) (sets : List ℕ) (test : ℕ → Asked) where
+module _ (done coming : List ℕ) (p : Place) (f : Fits done coming p) (q : Question) (sets : List ℕ) where
   abbrev t : Text
   t = textOf done coming p
 
@@ -60,17 +61,17 @@ module _ (done coming : List ℕ) (p : Place) (f : Fits done coming p) (q : Ques
   part = drop (p .idx) (glyphsOf coming)
 
   -- matching in the glyphs from the cursor on
-  abbrev from₀ : List ℕ → Outcome
-  from₀ values = inputOn q sets test D part 0 values
+  abbrev from₀ : List Asked → Outcome
+  from₀ values = inputOn q sets itself D part 0 values
 
-  row-input : (values : List ℕ) → inputOn q sets test D C (p .idx) values ≡ raisedBy (p .idx) (from₀ values)
-  row-input values = let z = sizes done coming p f in input-shift C (p .idx) q sets test (omega arith) D values
+  row-input : (values : List Asked) → inputOn q sets itself D C (p .idx) values ≡ raisedBy (p .idx) (from₀ values)
+  row-input values = let z = sizes done coming p f in input-shift C (p .idx) q sets itself (omega arith) D values
 
-  text-input : (values : List ℕ) → inputAt q sets test (textOf done coming p) values ≡ raisedBy (p .d) (from₀ values)
+  text-input : (values : List Asked) → inputAt q sets (textOf done coming p) values ≡ raisedBy (p .d) (from₀ values)
   text-input values =
       let z = sizes done coming p f in
-      input-shift (t .glyphs) (p .d) q sets test (omega arith) (take (p .d) (t .glyphs)) values
-      ∙ ap₂ (λ (a b : List Glyph). raisedBy (p .d) (inputOn q sets test a b 0 values)) (before-cursor f) (from-cursor f)
+      input-shift (t .glyphs) (p .d) q sets itself (omega arith) (take (p .d) (t .glyphs)) values
+      ∙ ap₂ (λ (a b : List Glyph). raisedBy (p .d) (inputOn q sets itself a b 0 values)) (before-cursor f) (from-cursor f)
 
   -- the end, from the cursor on
   abbrev R : List ℕ → ℕ
@@ -90,7 +91,7 @@ module _ (done coming : List ℕ) (p : Place) (f : Fits done coming p) (q : Ques
 
   -- ---- a match of the input in the row
 
-  pub record Shown (values : List ℕ) (m : InputMatch) : Type 0 where
+  pub record Shown (values : List Asked) (m : InputMatch) : Type 0 where
     pub qs : List ℕ
     pub is : from₀ values ≡ taken qs
     pub end : endOf (m .answer) ≡ p .idx + R qs
@@ -100,7 +101,7 @@ module _ (done coming : List ℕ) (p : Place) (f : Fits done coming p) (q : Ques
     pub all : m .positions ≡ slotted (p .idx ∷ raisedAll (p .idx) qs)
     pub many : m .count ≡ length (p .idx ∷ raisedAll (p .idx) qs)
 
-  module _ (here : p .idx < limit) (values : List ℕ) where
+  module _ (here : p .idx < limit) (values : List Asked) where
     taken-shown : (qs : List ℕ) → from₀ values ≡ taken qs → Shown values (matchedAt C (p .idx) (raisedAll (p .idx) qs))
     unfolding inputOn inputBy
     taken-shown qs e =
@@ -124,23 +125,24 @@ module _ (done coming : List ℕ) (p : Place) (f : Fits done coming p) (q : Ques
     shown-by (lost extent) e h = absurd (true-false (sym h))
     shown-by unlike e h = absurd (true-false (sym h))
 
-    pub input-shown : (m : InputMatch) → m ≡ inputTold C (p .idx) (inputOn q sets test D C (p .idx) values) → isMatched (m .answer) ≡ true → Shown values m
+    pub input-shown : (m : InputMatch) → m ≡ inputTold C (p .idx) (inputOn q sets itself D C (p .idx) values) → isMatched (m .answer) ≡ true → Shown values m
     input-shown m e h =
         let r : m ≡ inputTold C (p .idx) (raisedBy (p .idx) (from₀ values)) = e ∙ ap (inputTold C (p .idx)) (row-input values) in
         rw r (shown-by (from₀ values) refl (rw r at h))
 
   -- what lost in the row doesn't match in the text
-  module _ (values back onward : List ℕ) where
-    lost-by : (o : Outcome) → isMatched (inputTold C (p .idx) (raisedBy (p .idx) o) .answer) ≡ false → Unmatched ≡ afterInput q sets test (textOf done coming p) back onward (raisedBy (p .d) o)
+  module _ (k : Chain Asked) where
+    lost-by : (o : Outcome) → isMatched (inputTold C (p .idx) (raisedBy (p .idx) o) .answer) ≡ false
+        → Unmatched ≡ afterInput q sets (textOf done coming p) k (raisedBy (p .d) o)
     lost-by (taken qs) h = absurd (true-false h)
     lost-by (lost extent) h = refl
     lost-by unlike h = refl
 
-    pub input-lost : (m : InputMatch) → m ≡ inputTold C (p .idx) (inputOn q sets test D C (p .idx) values) → isMatched (m .answer) ≡ false
-        → Unmatched ≡ afterInput q sets test (textOf done coming p) back onward (inputAt q sets test (textOf done coming p) values)
+    pub input-lost : (m : InputMatch) → m ≡ inputTold C (p .idx) (inputOn q sets itself D C (p .idx) (k .input)) → isMatched (m .answer) ≡ false
+        → Unmatched ≡ afterInput q sets (textOf done coming p) k (inputAt q sets (textOf done coming p) (k .input))
     input-lost m e h =
-        let r : m ≡ inputTold C (p .idx) (raisedBy (p .idx) (from₀ values)) = e ∙ ap (inputTold C (p .idx)) (row-input values) in
-        rw (text-input values) (lost-by (from₀ values) (rw r at h))
+        let r : m ≡ inputTold C (p .idx) (raisedBy (p .idx) (from₀ (k .input))) = e ∙ ap (inputTold C (p .idx)) (row-input (k .input)) in
+        rw (text-input (k .input)) (lost-by (from₀ (k .input)) (rw r at h))
 
   -- ---- lookahead and backtrack after it
 
@@ -149,35 +151,38 @@ module _ (done coming : List ℕ) (p : Place) (f : Fits done coming p) (q : Ques
     syllable-is : getD (t .glyphs) (p .d) blank .syllable ≡ g .syllable
     syllable-is = ap (λ (x : Glyph). x .syllable) (at-cursor f ∙ sym is)
 
-    ahead-is : (onward : List ℕ) → isTaken (aheadAt q sets test (textOf done coming p) (endAfter q sets (textOf done coming p) (raisedAll (p .d) qs)) onward)
-        ≡ isTaken (aheadOn q sets test C (p .idx + R qs) (g .syllable) onward)
+    ahead-is : (onward : List Asked) → isTaken (aheadAt q sets (textOf done coming p) (endAfter q sets (textOf done coming p) (raisedAll (p .d) qs)) onward)
+        ≡ isTaken (aheadOn q sets itself C (p .idx + R qs) (g .syllable) onward)
     ahead-is onward =
         let z = sizes done coming p f in
         let n : ℕ = p .d + R qs in
         let tail : drop (p .d + R qs) (t .glyphs) ≡ drop (p .idx + R qs) C =
         sym (drop-drop (R qs) (p .d) (t .glyphs)) ∙ ap (drop (R qs)) (from-cursor f) ∙ drop-drop (R qs) (p .idx) C in
-        ap₂ (λ (start s : ℕ). isTaken (aheadOn q sets test (t .glyphs) start s onward)) (text-end qs) syllable-is
-        ∙ ap isTaken (ahead-shift (t .glyphs) (p .d + R qs) q sets test (omega arith) (g .syllable) onward)
-        ∙ taken-raised (p .d + R qs) (aheadOn q sets test (drop (p .d + R qs) (t .glyphs)) 0 (g .syllable) onward)
-        ∙ ap (λ (l : List Glyph). isTaken (aheadOn q sets test l 0 (g .syllable) onward)) tail
-        ∙ sym (taken-raised (p .idx + R qs) (aheadOn q sets test (drop (p .idx + R qs) C) 0 (g .syllable) onward))
-        ∙ sym (ap isTaken (ahead-shift C (p .idx + R qs) q sets test inside (g .syllable) onward))
+        ap₂ (λ (start s : ℕ). isTaken (aheadOn q sets itself (t .glyphs) start s onward)) (text-end qs) syllable-is
+        ∙ ap isTaken (ahead-shift (t .glyphs) (p .d + R qs) q sets itself (omega arith) (g .syllable) onward)
+        ∙ taken-raised (p .d + R qs) (aheadOn q sets itself (drop (p .d + R qs) (t .glyphs)) 0 (g .syllable) onward)
+        ∙ ap (λ (l : List Glyph). isTaken (aheadOn q sets itself l 0 (g .syllable) onward)) tail
+        ∙ sym (taken-raised (p .idx + R qs) (aheadOn q sets itself (drop (p .idx + R qs) C) 0 (g .syllable) onward))
+        ∙ sym (ap isTaken (ahead-shift C (p .idx + R qs) q sets itself inside (g .syllable) onward))
 
-    back-is : (back : List ℕ) → isTaken (backAt q sets test (textOf done coming p) back) ≡ isTaken (backOn q sets test D (g .syllable) back)
-    back-is back = ap₂ (λ (row : List Glyph) (s : ℕ). isTaken (backOn q sets test row s back)) (before-cursor f) syllable-is
+    back-is : (back : List Asked) → isTaken (backAt q sets (textOf done coming p) back) ≡ isTaken (backOn q sets itself D (g .syllable) back)
+    back-is back = ap₂ (λ (row : List Glyph) (s : ℕ). isTaken (backOn q sets itself row s back)) (before-cursor f) syllable-is
 
     -- the match in the text, by what was asked of the rows
-    pub context-is : (values back onward : List ℕ) → inputOn q sets test D part 0 values ≡ taken qs
-        → afterInput q sets test (textOf done coming p) back onward (inputAt q sets test (textOf done coming p) values)
-        ≡ cond (isTaken (aheadOn q sets test C (p .idx + R qs) (g .syllable) onward) && isTaken (backOn q sets test D (g .syllable) back))
+    pub context-is : (k : Chain Asked) → inputOn q sets itself D part 0 (k .input) ≡ taken qs
+        → afterInput q sets (textOf done coming p) k (inputAt q sets (textOf done coming p) (k .input))
+        ≡ cond (isTaken (aheadOn q sets itself C (p .idx + R qs) (g .syllable) (k .lookahead)) && isTaken (backOn q sets itself D (g .syllable) (k .backtrack)))
         (Matched (p .d ∷ raisedAll (p .d) qs) (p .d + R qs)) Unmatched
-    context-is values back onward e =
-        ap (afterInput q sets test (textOf done coming p) back onward) (text-input values ∙ ap (raisedBy (p .d)) e)
-        ∙ ap₂ (λ (a b : Bool). cond (a && b) (Matched (p .d ∷ raisedAll (p .d) qs) (endAfter q sets (textOf done coming p) (raisedAll (p .d) qs))) Unmatched) (ahead-is onward) (back-is back)
-        ∙ ap (λ (n : ℕ). cond (isTaken (aheadOn q sets test C (p .idx + R qs) (g .syllable) onward) && isTaken (backOn q sets test D (g .syllable) back)) (Matched (p .d ∷ raisedAll (p .d) qs) n) Unmatched) (text-end qs)
+    context-is k e =
+        let u : Text = textOf done coming p in
+        ap (afterInput q sets (textOf done coming p) k) (text-input (k .input) ∙ ap (raisedBy (p .d)) e)
+        ∙ ap₂ (λ (a b : Bool). cond (a && b) (Matched (p .d ∷ raisedAll (p .d) qs) (endAfter q sets u (raisedAll (p .d) qs))) Unmatched)
+        (ahead-is (k .lookahead)) (back-is (k .backtrack))
+        ∙ ap (λ (n : ℕ). cond (isTaken (aheadOn q sets itself C (p .idx + R qs) (g .syllable) (k .lookahead)) && isTaken (backOn q sets itself D (g .syllable) (k .backtrack)))
+        (Matched (p .d ∷ raisedAll (p .d) qs) n) Unmatched) (text-end qs)
 
   -- the level that the match opens
-  pub level-is : (values : List ℕ) (m : InputMatch) (s : Shown values m)
+  pub level-is : (values : List Asked) (m : InputMatch) (s : Shown values m)
       → movedLevel (p .idx) (p .d) (take (m .count) (m .positions)) (endOf (m .answer))
       ≡ record { live = true; positions = p .d ∷ raisedAll (p .d) (s .qs); end = p .d + R (s .qs) }
   level-is values m s =

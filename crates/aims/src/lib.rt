@@ -9,9 +9,11 @@ use matching::Lookup;
 use runs::Given;
 use text::Place;
 use verdict::Settings;
+use verdict::Sign;
 use verdict::Table;
 use verdict::Test;
 ghost use mathlib.Core.Path.{_≡_};
+ghost use mathlib.Core.List.{map};
 ghost use Prim.Native.Nat.{_≤_, _<_};
 ghost use lib.ListN.{length};
 ghost use Rattle.glyph.specs.Glyph.{limit, glyphsOf};
@@ -20,14 +22,21 @@ ghost use Rattle.verdict.specs.Verdict.{valueBy};
 ghost use Rattle.matching.specs.Matchers.{inputOn, aheadOn, backOn};
 ghost use Rattle.matching.specs.Answers.{inputTold, isMatched, endOf, isFound};
 ghost use Rattle.book.specs.Inside.{Good};
-ghost use Rattle.runs.specs.Chain.{asks, isTaken};
-ghost use Rattle.aims.specs.Aim.{noAim, aimAt, matchOn, aimedAt};
+ghost use Rattle.runs.specs.Chain.{asks, isTaken, itself, chainAt};
+ghost use Rattle.aims.specs.Aim.{noAim, aimAt, byId, handedChain, aimedAt};
 
 // A chain that matched, where it did: its level and its records.
 pub struct Aim {
     pub hit: bool,
     pub level: Slots,
     pub records: Part,
+}
+
+// How the values of each part of a chain are tested; the first glyph's value is tested as the input's are.
+pub struct Tests {
+    pub backtrack: Test,
+    pub input: Test,
+    pub lookahead: Test,
 }
 
 // What a chain with these props asks of the glyphs: the run's switches and mask, under GSUB.
@@ -92,7 +101,8 @@ fn match_values(
 ) -> InputMatch
     requires { ⌜ (idx < length (glyphsOf (now coming))) × (length (glyphsOf (now coming)) ≤ limit) × (length (now values) ≤ 63) ⌝ }
     ensures { λ r. ⌜ r ≡ inputTold (glyphsOf (now (coming .entry))) idx
-        (inputOn q (now (sets .entry)) (valueBy test (now (lists .entry))) (glyphsOf (now (before .entry))) (glyphsOf (now (coming .entry))) idx (now (values .entry))) ⌝ }
+        (inputOn q (now (sets .entry)) itself (glyphsOf (now (before .entry))) (glyphsOf (now (coming .entry))) idx
+        (map (valueBy test (now (lists .entry))) (now (values .entry)))) ⌝ }
 {
     let n = values.len();
     let wide = book::widen(values);
@@ -111,7 +121,8 @@ fn is_ahead(
     values: &[u16],
 ) -> bool
     requires { ⌜ (start ≤ length (glyphsOf (now coming))) × (length (now values) ≤ 64) ⌝ }
-    ensures { λ r. ⌜ r ≡ isTaken (aheadOn q (now (sets .entry)) (valueBy test (now (lists .entry))) (glyphsOf (now (coming .entry))) start syllable (now (values .entry))) ⌝ }
+    ensures { λ r. ⌜ r ≡ isTaken (aheadOn q (now (sets .entry)) itself (glyphsOf (now (coming .entry))) start syllable
+        (map (valueBy test (now (lists .entry))) (now (values .entry)))) ⌝ }
 {
     let n = values.len();
     if n == 0 {
@@ -132,7 +143,8 @@ fn is_behind(
     values: &[u16],
 ) -> bool
     requires { ⌜ length (now values) ≤ 64 ⌝ }
-    ensures { λ r. ⌜ r ≡ isTaken (backOn q (now (sets .entry)) (valueBy test (now (lists .entry))) (glyphsOf (now (before .entry))) syllable (now (values .entry))) ⌝ }
+    ensures { λ r. ⌜ r ≡ isTaken (backOn q (now (sets .entry)) itself (glyphsOf (now (before .entry))) syllable
+        (map (valueBy test (now (lists .entry))) (now (values .entry)))) ⌝ }
 {
     let n = values.len();
     if n == 0 {
@@ -158,12 +170,12 @@ fn no_aim() -> Aim
     }
 }
 
-// A chain at the cursor: first id, input, lookahead, backtrack.
+// A chain at the cursor: first glyph, input, lookahead, backtrack.
 fn match_chain(
     done: &[u32],
     coming: &[u32],
     sets: &[u16],
-    test: Test,
+    tests: Tests,
     lists: &[u16],
     p: Place,
     q: Lookup,
@@ -174,12 +186,14 @@ fn match_chain(
     records: Part,
 ) -> Aim
     requires { ⌜ Fits (now done) (now coming) p × (p .idx < limit) × (length (now back) ≤ 64) × (length (now input) ≤ 63) × (length (now onward) ≤ 64) ⌝ }
-    ensures { λ r. ⌜ r ≡ aimAt records (matchOn q (now (sets .entry)) (valueBy test (now (lists .entry))) first (now (back .entry)) (now (input .entry)) (now (onward .entry)) (textOf (now (done .entry)) (now (coming .entry)) p)) ⌝ }
+    ensures { λ r. ⌜ r ≡ aimAt records (chainAt q (now (sets .entry)) (textOf (now (done .entry)) (now (coming .entry)) p)
+        (handedChain tests (now (lists .entry)) first (now (back .entry)) (now (input .entry)) (now (onward .entry)) records)) ⌝ }
 {
     let d = p.d;
     let idx = p.idx;
     let g = glyph::read(coming, idx);
-    if g.id != first {
+    let test = tests.input;
+    if !judging::is_value(Sign { test, value: first }, lists, g) {
         return no_aim();
     }
     let before = glyph::first(done, d);
@@ -189,10 +203,12 @@ fn match_chain(
         return no_aim();
     }
     let end = end_of(answer);
-    if !is_ahead(coming, end, g.syllable, q, sets, test, lists, onward) {
+    let ahead = tests.lookahead;
+    if !is_ahead(coming, end, g.syllable, q, sets, ahead, lists, onward) {
         return no_aim();
     }
-    if !is_behind(before, g.syllable, q, sets, test, lists, back) {
+    let behind = tests.backtrack;
+    if !is_behind(before, g.syllable, q, sets, behind, lists, back) {
         return no_aim();
     }
     let places = m.positions;
@@ -201,6 +217,17 @@ fn match_chain(
         hit: true,
         level,
         records,
+    }
+}
+
+// Kind 3: each value is an id.
+fn by_id() -> Tests
+    ensures { λ r. ⌜ r ≡ byId ⌝ }
+{
+    Tests {
+        backtrack: Test::Equal,
+        input: Test::Equal,
+        lookahead: Test::Equal,
     }
 }
 
@@ -218,33 +245,30 @@ pub fn take_aim(
     ensures { λ r. ⌜ r ≡ aimedAt given (now (sets .entry)) (now (book .entry)) e (textOf (now (done .entry)) (now (coming .entry)) p) ⌝ }
 {
     match e {
-        Entry::Chain {
-            props,
-            first,
-            backtrack,
-            input,
-            lookahead,
-            records,
-        } => {
+        Entry::Chain { props, parts } => {
             let q = ask(given, props);
-            let a = backtrack.from;
-            let b = backtrack.to;
-            let i = input.from;
-            let j = input.to;
-            let k = lookahead.from;
-            let l = lookahead.to;
+            let b = parts.backtrack;
+            let i = parts.input;
+            let l = parts.lookahead;
+            let x = b.from;
+            let y = b.to;
+            let u = i.from;
+            let v = i.to;
+            let k = l.from;
+            let n = l.to;
+            let records = parts.records;
             match_chain(
                 done,
                 coming,
                 sets,
-                Test::Equal,
+                by_id(),
                 book,
                 p,
                 q,
-                first,
-                &book[a..b],
-                &book[i..j],
-                &book[k..l],
+                parts.first,
+                &book[x..y],
+                &book[u..v],
+                &book[k..n],
                 records,
             )
         }

@@ -12,9 +12,10 @@ use lib.ListN.{length, getD, take, drop, length-drop, drop-of-length-le}
 use lib.Seq.{drop-cons, drop-drop, getD-drop}
 use Rattle.book.specs.declared.Part.{Part}
 use Rattle.book.specs.declared.Counted.{Counted}
+use Rattle.book.specs.declared.ChainParts.{ChainParts}
 use Rattle.book.specs.declared.Entry.{Entry}
 use Rattle.book.specs.Book.{mostIds, mostInput, mostSide, mostRecords, Lookup, Kind1, Kind2, Kind3, recordsOf, Found, Is, None, Split, Taken, Short, counted, andThen, whole, kind1, kind2, kind3, bodyOf}
-use Rattle.book.specs.Places.{partOf, meant, countedAt, partThen, wholeAt, oneAt, manyAt, chainAt, kindAt}
+use Rattle.book.specs.Places.{partOf, chainOf, meant, countedAt, partThen, wholeAt, oneAt, manyAt, chainAt, kindAt}
 
 -- ---- entries after their number
 
@@ -106,8 +107,8 @@ chain-by w props a true e =
     (λ ahead.
     then-at w _ _
     (λ records.
-    whole-at w (records .to) (Entry.Chain props (getD w a 0) back input ahead records)
-    (Kind3 props (getD w a 0) (partOf w back) (partOf w input) (partOf w ahead) (recordsOf (partOf w records))) refl)
+    let c : ChainParts = record { first = getD w a 0; backtrack = back; input = input; lookahead = ahead; records = records } in
+    whole-at w (records .to) (Entry.Chain props c) (Kind3 props (chainOf w c)) refl)
     (ahead .to) 2 mostRecords)
     (input .to) 1 mostSide)
     (back .to) 1 mostInput)

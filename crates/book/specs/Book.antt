@@ -36,14 +36,23 @@ recordsOf [] = []
 recordsOf (seq ∷ []) = []
 recordsOf (seq ∷ k ∷ rest) = record { seq = seq; lookup = k } ∷ recordsOf rest
 
+-- a chain over values of any kind: what its first glyph must be; backtrack, input and lookahead values, backtrack and lookahead from the nearest glyph
+-- outwards; records (OpenType, chapter GSUB, types 5 and 6)
+pub record Chain (X : Type 0) : Type 0 where
+  pub first : X
+  pub backtrack : List X
+  pub input : List X
+  pub lookahead : List X
+  pub records : List Record
+
 -- a lookup, by its kind; the first number is its props
 pub data Lookup : Type 0 where
   -- from, to (OpenType, chapter GSUB, type 1)
   Kind1 : ℕ → ℕ → ℕ → Lookup
   -- from, ids (type 2)
   Kind2 : ℕ → ℕ → List ℕ → Lookup
-  -- first id; backtrack, input and lookahead values, backtrack and lookahead from the nearest glyph outwards; records (types 5 and 6)
-  Kind3 : ℕ → ℕ → List ℕ → List ℕ → List ℕ → List Record → Lookup
+  -- a chain whose values are ids
+  Kind3 : ℕ → Chain ℕ → Lookup
 
 -- a lookup, or none
 pub data Found : Type 0 where
@@ -87,7 +96,7 @@ kind3 props (first ∷ ws) =
     andThen (counted 1 mostInput r) (λ input s.
     andThen (counted 1 mostSide s) (λ ahead t.
     andThen (counted 2 mostRecords t) (λ pairs over.
-    whole over (Kind3 props first back input ahead (recordsOf pairs))))))
+    whole over (Kind3 props (record { first = first; backtrack = back; input = input; lookahead = ahead; records = recordsOf pairs }))))))
 
 -- the lookup of a kind whose whole body is these words
 unfoldable pub bodyOf : ℕ → ℕ → List ℕ → Found

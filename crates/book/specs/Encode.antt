@@ -2,7 +2,7 @@
 use Prim.Native.Nat.{ℕ, _+_, _/_, _%_, _≤_, _<_}
 use mathlib.Core.List.{List, [], _∷_, _++_}
 use lib.ListN.{length, getD}
-use Rattle.book.specs.Book.{mostWords, mostLookups, mostIds, mostInput, mostSide, mostRecords, Record, Lookup, Kind1, Kind2, Kind3}
+use Rattle.book.specs.Book.{mostWords, mostLookups, mostIds, mostInput, mostSide, mostRecords, Record, Chain, Lookup, Kind1, Kind2, Kind3}
 
 -- the words of records
 unfoldable pub pairsOf : List Record → List ℕ
@@ -12,12 +12,12 @@ pairsOf (r ∷ rs) = r .seq ∷ r .lookup ∷ pairsOf rs
 abbrev pub kindOf : Lookup → ℕ
 kindOf (Kind1 props from to) = 1
 kindOf (Kind2 props from ids) = 2
-kindOf (Kind3 props first back input ahead records) = 3
+kindOf (Kind3 props chain) = 3
 
 abbrev pub propsOf : Lookup → ℕ
 propsOf (Kind1 props from to) = props
 propsOf (Kind2 props from ids) = props
-propsOf (Kind3 props first back input ahead records) = props
+propsOf (Kind3 props chain) = props
 
 -- entries after their number
 abbrev pub numbered : ℕ → List ℕ → List ℕ → List ℕ
@@ -26,10 +26,11 @@ numbered n entries rest = n ∷ entries ++ rest
 abbrev pub contentOf : Lookup → List ℕ
 contentOf (Kind1 props from to) = from ∷ to ∷ []
 contentOf (Kind2 props from ids) = from ∷ numbered (length ids) ids []
-contentOf (Kind3 props first back input ahead records) =
-    first ∷
-    numbered (length back) back
-    (numbered (length input) input (numbered (length ahead) ahead (numbered (length records) (pairsOf records) [])))
+contentOf (Kind3 props c) =
+    c .first ∷
+    numbered (length (c .backtrack)) (c .backtrack)
+    (numbered (length (c .input)) (c .input)
+    (numbered (length (c .lookahead)) (c .lookahead) (numbered (length (c .records)) (pairsOf (c .records)) [])))
 
 -- kind, props low, props high, body length, body
 unfoldable pub encode : Lookup → List ℕ
@@ -43,12 +44,18 @@ encodeAll (l ∷ ls) = encode l ++ encodeAll ls
 abbrev pub Narrow : List ℕ → Type 0
 Narrow ws = (k : ℕ) → getD ws k 0 < 65536
 
+-- a chain within the limits
+pub record ChainWithin (c : Chain ℕ) : Type 0 where
+  pub backtrack : length (c .backtrack) ≤ mostSide
+  pub input : length (c .input) ≤ mostInput
+  pub lookahead : length (c .lookahead) ≤ mostSide
+  pub records : length (c .records) ≤ mostRecords
+
 -- a lookup within the limits
 abbrev pub Within : Lookup → Type 0
 Within (Kind1 props from to) = Unit {0}
 Within (Kind2 props from ids) = length ids ≤ mostIds
-Within (Kind3 props first back input ahead records) =
-    (length back ≤ mostSide) × (length input ≤ mostInput) × (length ahead ≤ mostSide) × (length records ≤ mostRecords)
+Within (Kind3 props chain) = ChainWithin chain
 
 unfoldable pub AllWithin : List Lookup → Type 0
 AllWithin [] = Unit {0}

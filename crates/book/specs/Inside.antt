@@ -11,6 +11,7 @@ use lib.ListN.{length, getD, take, drop}
 use lib.Seq.{take-nil, take-take}
 use Rattle.book.specs.declared.Part.{Part}
 use Rattle.book.specs.declared.Counted.{Counted}
+use Rattle.book.specs.declared.ChainParts.{ChainParts}
 use Rattle.book.specs.declared.Entry.{Entry}
 use Rattle.book.specs.Book.{mostIds, mostInput, mostSide, mostRecords, Is}
 use Rattle.book.specs.Places.{partOf, meant, countedAt, partThen, oneAt, manyAt, chainAt, kindAt}
@@ -23,11 +24,16 @@ pub record Inside (n most : ℕ) (p : Part) : Type 0 where
   pub within : p .to ≤ n
   pub few : p .to ≤ p .from + most
 
+pub record GoodChain (n : ℕ) (c : ChainParts) : Type 0 where
+  pub backtrack : Inside n mostSide (c .backtrack)
+  pub input : Inside n mostInput (c .input)
+  pub lookahead : Inside n mostSide (c .lookahead)
+  pub records : Inside n (2 * mostRecords) (c .records)
+
 abbrev pub Good : ℕ → Entry → Type 0
 Good n (Entry.One props from to) = Unit {0}
 Good n (Entry.Many props from ids) = Inside n mostIds ids
-Good n (Entry.Chain props first back input ahead records) =
-    Inside n mostSide back × Inside n mostInput input × Inside n mostSide ahead × Inside n (2 * mostRecords) records
+Good n (Entry.Chain props parts) = GoodChain n parts
 Good n Entry.Missing = Unit {0}
 
 abbrev Held : ℕ → ℕ → Counted → Type 0
@@ -85,7 +91,10 @@ module _ (w : List ℕ) where
       good-then n mostSide _
       (λ ahead l.
       good-then n (2 * mostRecords) _
-      (λ records r. good-cond n (leb n (records .to)) (Entry.Chain props (getD w a 0) back input ahead records) Entry.Missing (b, i, l, r) tt)
+      (λ records r.
+      good-cond n (leb n (records .to))
+      (Entry.Chain props (record { first = getD w a 0; backtrack = back; input = input; lookahead = ahead; records = records }))
+      Entry.Missing (record { backtrack = b; input = i; lookahead = l; records = r }) tt)
       (countedAt w (ahead .to) 2 mostRecords) (held w (ahead .to) 2 mostRecords))
       (countedAt w (input .to) 1 mostSide) (held w (input .to) 1 mostSide))
       (countedAt w (back .to) 1 mostInput) (held w (back .to) 1 mostInput))
@@ -104,8 +113,12 @@ longer k n most p h i = record { ordered = i .ordered; within = omega (arith, i 
 pub good-longer : (k n : ℕ) (e : Entry) → k ≤ n → Good k e → Good n e
 good-longer k n (Entry.One props from to) h g = tt
 good-longer k n (Entry.Many props from ids) h g = longer k n mostIds ids h g
-good-longer k n (Entry.Chain props first back input ahead records) h g =
-    (longer k n mostSide back h (g .0), longer k n mostInput input h (g .1), longer k n mostSide ahead h (g .2), longer k n (2 * mostRecords) records h (g .3))
+good-longer k n (Entry.Chain props c) h g = record {
+  backtrack = longer k n mostSide (c .backtrack) h (g .backtrack);
+  input = longer k n mostInput (c .input) h (g .input);
+  lookahead = longer k n mostSide (c .lookahead) h (g .lookahead);
+  records = longer k n (2 * mostRecords) (c .records) h (g .records);
+}
 good-longer k n Entry.Missing h g = tt
 
 -- ---- the words up to the end of a part show the part
@@ -123,6 +136,11 @@ part-front ws k most p i =
 pub meant-front : (ws : List ℕ) (k : ℕ) (e : Entry) → Good k e → meant (take k ws) e ≡ meant ws e
 meant-front ws k (Entry.One props from to) g = refl
 meant-front ws k (Entry.Many props from ids) g = rw (part-front ws k mostIds ids g)
-meant-front ws k (Entry.Chain props first back input ahead records) g =
-    rw (part-front ws k mostSide back (g .0), part-front ws k mostInput input (g .1), part-front ws k mostSide ahead (g .2), part-front ws k (2 * mostRecords) records (g .3))
+meant-front ws k (Entry.Chain props c) g =
+    rw (
+      part-front ws k mostSide (c .backtrack) (g .backtrack),
+      part-front ws k mostInput (c .input) (g .input),
+      part-front ws k mostSide (c .lookahead) (g .lookahead),
+      part-front ws k (2 * mostRecords) (c .records) (g .records),
+    )
 meant-front ws k Entry.Missing g = refl

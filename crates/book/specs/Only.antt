@@ -9,7 +9,7 @@ use borrow.Author.Tests.{leb-true, eqb-true, le-leb, lt-leb}
 use lib.Dec.{eqb, leb}
 use lib.ListN.{length, getD, take, drop, take-append-drop}
 use lib.Seq.{length-take-le, getD-append-add}
-use Rattle.book.specs.Book.{mostLookups, mostIds, mostInput, mostSide, mostRecords, recordsOf, Lookup, Kind1, Kind2, Kind3, Found, Is, None, Split, Taken, Short, counted, andThen, whole, kind1, kind2, kind3, bodyOf, First, Read, Nothing, followed, firstOf, Reading, Reads, Unreadable, joined, readOn, readLookups, readBook}
+use Rattle.book.specs.Book.{mostLookups, mostIds, mostInput, mostSide, mostRecords, recordsOf, Chain, Lookup, Kind1, Kind2, Kind3, Found, Is, None, Split, Taken, Short, counted, andThen, whole, kind1, kind2, kind3, bodyOf, First, Read, Nothing, followed, firstOf, Reading, Reads, Unreadable, joined, readOn, readLookups, readBook}
 use Rattle.book.specs.Encode.{kindOf, propsOf, numbered, contentOf, encode, encodeAll, Within, AllWithin, Narrow, Legal}
 use Rattle.book.specs.Records.{records-length, pairs-back}
 use Rattle.book.specs.Starts.{no-read}
@@ -119,7 +119,8 @@ three props (first ∷ ws) l e =
     let ni : i .counts .number ≡ length (i .xs) = omega (arith, i .counts .long) in
     let na : a .counts .number ≡ length (a .xs) = omega (arith, a .counts .long) in
     let nr : length (recordsOf (r .xs)) ≡ r .counts .number = records-length (r .counts .number) (r .xs) (r .counts .long) in
-    moved 3 props (first ∷ ws) (Kind3 props first (b .xs) (i .xs) (a .xs) (recordsOf (r .xs))) l (s .same) record {
+    let c : Chain ℕ = record { first = first; backtrack = b .xs; input = i .xs; lookahead = a .xs; records = recordsOf (r .xs) } in
+    moved 3 props (first ∷ ws) (Kind3 props c) l (s .same) record {
       kinded = refl;
       flagged = refl;
       are = ap (λ (v : List ℕ). first ∷ v)
@@ -131,12 +132,12 @@ three props (first ∷ ws) l e =
           ∙ ap (numbered (a .counts .number) (a .xs))
           (r .counts .are)))
           ∙ rw (s .none, nb, ni, na, nr, pairs-back (r .counts .number) (r .xs) (r .counts .long)));
-      within = (
-        omega (arith, b .counts .few),
-        omega (arith, i .counts .few),
-        omega (arith, a .counts .few),
-        omega (arith, r .counts .few),
-      );
+      within = record {
+        backtrack = omega (arith, b .counts .few);
+        input = omega (arith, i .counts .few);
+        lookahead = omega (arith, a .counts .few);
+        records = omega (arith, r .counts .few);
+      };
     }
 
 body-by : (kind props : ℕ) (ws : List ℕ) (l : Lookup) (s t u : Bool) → eqb kind 1 ≡ s → eqb kind 2 ≡ t → eqb kind 3 ≡ u

@@ -6,9 +6,10 @@ use lib.Dec.{eqb, leb, ltb}
 use lib.ListN.{length, getD, take, drop, set, replicate}
 use Rattle.book.specs.declared.Part.{Part}
 use Rattle.book.specs.declared.Counted.{Counted}
+use Rattle.book.specs.declared.ChainParts.{ChainParts}
 use Rattle.book.specs.declared.Entry.{Entry}
 use Rattle.book.specs.declared.Index.{Index}
-use Rattle.book.specs.Book.{mostLookups, mostIds, mostInput, mostSide, mostRecords, Reading, Reads, Unreadable, Found, Is, None, Kind1, Kind2, Kind3, recordsOf, readBook}
+use Rattle.book.specs.Book.{mostLookups, mostIds, mostInput, mostSide, mostRecords, Reading, Reads, Unreadable, Found, Is, None, Chain, Kind1, Kind2, Kind3, recordsOf, readBook}
 
 abbrev pub zeros : ℕ → List ℕ
 zeros n = replicate n 0
@@ -17,12 +18,21 @@ zeros n = replicate n 0
 abbrev pub partOf : List ℕ → Part → List ℕ
 partOf ws p = take (p .to - p .from) (drop (p .from) ws)
 
+-- the chain whose parts stand there
+abbrev pub chainOf : List ℕ → ChainParts → Chain ℕ
+chainOf ws c = record {
+  first = c .first;
+  backtrack = partOf ws (c .backtrack);
+  input = partOf ws (c .input);
+  lookahead = partOf ws (c .lookahead);
+  records = recordsOf (partOf ws (c .records));
+}
+
 -- the lookup that an entry shows
 abbrev pub meant : List ℕ → Entry → Found
 meant ws (Entry.One props from to) = Is (Kind1 props from to)
 meant ws (Entry.Many props from ids) = Is (Kind2 props from (partOf ws ids))
-meant ws (Entry.Chain props first back input ahead records) =
-    Is (Kind3 props first (partOf ws back) (partOf ws input) (partOf ws ahead) (recordsOf (partOf ws records)))
+meant ws (Entry.Chain props parts) = Is (Kind3 props (chainOf ws parts))
 meant ws Entry.Missing = None
 
 -- ---- a body that begins at a and ends where the words end
@@ -56,7 +66,9 @@ chainAt ws props a =
     partThen (countedAt ws (back .to) 1 mostInput) (λ input.
     partThen (countedAt ws (input .to) 1 mostSide) (λ ahead.
     partThen (countedAt ws (ahead .to) 2 mostRecords) (λ records.
-    wholeAt ws (records .to) (Entry.Chain props (getD ws a 0) back input ahead records)))))) Entry.Missing
+    wholeAt ws (records .to)
+    (Entry.Chain props (record { first = getD ws a 0; backtrack = back; input = input; lookahead = ahead; records = records })))))))
+    Entry.Missing
 
 unfoldable pub kindAt : List ℕ → ℕ → ℕ → ℕ → Entry
 kindAt ws kind props a =
@@ -77,8 +89,14 @@ entryAt ws at =
 abbrev pub missing : Entry → Bool
 missing (Entry.One props from to) = false
 missing (Entry.Many props from ids) = false
-missing (Entry.Chain props first back input ahead records) = false
+missing (Entry.Chain props parts) = false
 missing Entry.Missing = true
+
+abbrev pub isChain : Entry → Bool
+isChain (Entry.One props from to) = false
+isChain (Entry.Many props from ids) = false
+isChain (Entry.Chain props parts) = true
+isChain Entry.Missing = false
 
 -- how many words it takes, 0 where there is none
 unfoldable pub sizeAt : List ℕ → ℕ → ℕ

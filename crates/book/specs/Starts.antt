@@ -9,8 +9,8 @@ use borrow.Author.Tests.{le-leb, lt-leb}
 use lib.ListN.{length, getD, drop, set, length-append, length-drop, drop-of-length-le}
 use Rattle.book.specs.declared.Entry.{Entry}
 use Rattle.book.specs.declared.Index.{Index}
-use Rattle.book.specs.Book.{mostWords, mostLookups, Lookup, Kind1, Kind2, Kind3, recordsOf, Found, Is, None, First, followed, firstOf, Reading, Reads, Unreadable, joined, readOn, readLookups, readBook, isRead}
-use Rattle.book.specs.Places.{zeros, partOf, meant, entryAt, missing, sizeAt, startOf, slots, noIndex, indexed, indexOf}
+use Rattle.book.specs.Book.{mostWords, mostLookups, Lookup, Kind1, Kind2, Kind3, Found, Is, None, First, followed, firstOf, Reading, Reads, Unreadable, joined, readOn, readLookups, readBook, isRead}
+use Rattle.book.specs.Places.{zeros, partOf, chainOf, meant, entryAt, missing, sizeAt, startOf, slots, noIndex, indexed, indexOf}
 use Rattle.book.specs.Readings.{first-at, entry-fits}
 
 -- a book that doesn't read has no lookups
@@ -42,14 +42,13 @@ record Shown (ws : List ℕ) (e : Entry) : Type 0 where
 shown : (ws : List ℕ) (e : Entry) → missing e ≡ false → Shown ws e
 shown ws (Entry.One props from to) m = record { it = Kind1 props from to; is = refl }
 shown ws (Entry.Many props from ids) m = record { it = Kind2 props from (partOf ws ids); is = refl }
-shown ws (Entry.Chain props first back input ahead records) m =
-    record { it = Kind3 props first (partOf ws back) (partOf ws input) (partOf ws ahead) (recordsOf (partOf ws records)); is = refl }
+shown ws (Entry.Chain props parts) m = record { it = Kind3 props (chainOf ws parts); is = refl }
 shown ws Entry.Missing m = absurd (true≢false m)
 
 hidden : (ws : List ℕ) (e : Entry) → missing e ≡ true → meant ws e ≡ None
 hidden ws (Entry.One props from to) m = absurd (true≢false (sym m))
 hidden ws (Entry.Many props from ids) m = absurd (true≢false (sym m))
-hidden ws (Entry.Chain props first back input ahead records) m = absurd (true≢false (sym m))
+hidden ws (Entry.Chain props parts) m = absurd (true≢false (sym m))
 hidden ws Entry.Missing m = refl
 
 -- a lookup read, and the words after it

@@ -24,16 +24,16 @@ body-back : (l : Lookup) → Within l → bodyOf (kindOf l) (propsOf l) (content
 unfolding bodyOf
 body-back (Kind1 props from to) h = refl
 body-back (Kind2 props from ids) h = rw (counted-back 1 mostIds (length ids) ids [] (once ids) h)
-body-back (Kind3 props first back input ahead records) h =
-    let r = numbered (length records) (pairsOf records) [] in
-    let a = numbered (length ahead) ahead r in
-    let i = numbered (length input) input a in
+body-back (Kind3 props c) h =
+    let r = numbered (length (c .records)) (pairsOf (c .records)) [] in
+    let a = numbered (length (c .lookahead)) (c .lookahead) r in
+    let i = numbered (length (c .input)) (c .input) a in
     rw (
-      counted-back 1 mostSide (length back) back i (once back) (h .0),
-      counted-back 1 mostInput (length input) input a (once input) (h .1),
-      counted-back 1 mostSide (length ahead) ahead r (once ahead) (h .2),
-      counted-back 2 mostRecords (length records) (pairsOf records) [] (pairs-length records) (h .3),
-      records-back records,
+      counted-back 1 mostSide (length (c .backtrack)) (c .backtrack) i (once (c .backtrack)) (h .backtrack),
+      counted-back 1 mostInput (length (c .input)) (c .input) a (once (c .input)) (h .input),
+      counted-back 1 mostSide (length (c .lookahead)) (c .lookahead) r (once (c .lookahead)) (h .lookahead),
+      counted-back 2 mostRecords (length (c .records)) (pairsOf (c .records)) [] (pairs-length (c .records)) (h .records),
+      records-back (c .records),
     )
 
 first-back : (l : Lookup) (rest : List ℕ) → Within l → firstOf (encode l ++ rest) ≡ Read l rest

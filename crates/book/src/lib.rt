@@ -5,7 +5,7 @@ ghost use mathlib.Core.Path.{_≡_};
 ghost use Prim.Native.Nat.{_≤_};
 ghost use lib.ListN.{length};
 ghost use Rattle.book.specs.Book.{mostSide};
-ghost use Rattle.book.specs.Places.{countedAt, oneAt, manyAt, chainAt, kindAt, entryAt, missing, sizeAt, foundIn, widened};
+ghost use Rattle.book.specs.Places.{countedAt, oneAt, manyAt, chainAt, kindAt, entryAt, missing, isChain, sizeAt, foundIn, widened};
 
 pub const LOOKUPS: usize = 256;
 
@@ -23,6 +23,15 @@ pub struct Part {
     pub to: usize,
 }
 
+// Where a chain's parts stand.
+pub struct ChainParts {
+    pub first: u32,
+    pub backtrack: Part,
+    pub input: Part,
+    pub lookahead: Part,
+    pub records: Part,
+}
+
 // A lookup and where its parts stand.
 pub enum Entry {
     One {
@@ -37,11 +46,7 @@ pub enum Entry {
     },
     Chain {
         props: u32,
-        first: u32,
-        backtrack: Part,
-        input: Part,
-        lookahead: Part,
-        records: Part,
+        parts: ChainParts,
     },
     Missing,
 }
@@ -98,15 +103,28 @@ fn is_missing(e: Entry) -> bool
             from: _,
             ids: _,
         } => false,
-        Entry::Chain {
-            props: _,
-            first: _,
-            backtrack: _,
-            input: _,
-            lookahead: _,
-            records: _,
-        } => false,
+        Entry::Chain { props: _, parts: _ } => false,
         Entry::Missing => true,
+    }
+}
+
+// Whether a lookup applies records where it matches, and doesn't act by itself.
+pub fn is_chain(e: Entry) -> bool
+    ensures { λ r. ⌜ r ≡ isChain e ⌝ }
+{
+    match e {
+        Entry::One {
+            props: _,
+            from: _,
+            to: _,
+        } => false,
+        Entry::Many {
+            props: _,
+            from: _,
+            ids: _,
+        } => false,
+        Entry::Chain { props: _, parts: _ } => true,
+        Entry::Missing => false,
     }
 }
 
@@ -205,11 +223,13 @@ fn chain_at(words: &[u16], props: u32, a: usize) -> Entry
     }
     Entry::Chain {
         props: props,
-        first: words[a] as u32,
-        backtrack: backtrack,
-        input: input,
-        lookahead: lookahead,
-        records: records,
+        parts: ChainParts {
+            first: words[a] as u32,
+            backtrack: backtrack,
+            input: input,
+            lookahead: lookahead,
+            records: records,
+        },
     }
 }
 

@@ -35,7 +35,7 @@ turning ids = 2 ∷ 0 ∷ 0 ∷ (2 + length ids) ∷ 2 ∷ length ids ∷ ids
 abbrev shows : Checked → Stage → List (List ℕ)
 shows (Checked.Refused why) v = (refusalNumber why ∷ []) ∷ []
 shows Checked.Accepted v =
-    (endingNumber (v .run .ending) ∷ []) ∷ map (λ (g : Glyph). g .id) (v .run .text .glyphs) ∷ v .level .positions ∷ (v .run .text .cursor ∷ v .run .tries ∷ []) ∷ []
+    (endingNumber (v .run .tally .ending) ∷ []) ∷ map (λ (g : Glyph). g .id) (v .run .text .glyphs) ∷ v .level .positions ∷ (v .run .text .cursor ∷ v .run .tally .spent ∷ []) ∷ []
 
 -- record (1, 0) over ids 1, 2, 3, matched whole
 abbrev ran : List ℕ → ℕ → ℕ → List (List ℕ)

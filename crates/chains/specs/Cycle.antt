@@ -1,41 +1,49 @@
--- Laws of the two functions in a cycle: a turn of the record loop is the definition's step, and a lookup is the definition's by the entry that was found.
-use mathlib.Core.Path.{_≡_, refl, sym, ap, ap₂, subst, _∙_}
-use mathlib.Core.Bool.{Bool, true, false, cond, not}
-use mathlib.Core.List.{List, [], _∷_}
-use Prim.Native.Nat.{ℕ, zero, suc, _+_, _-_, _*_, _≤_, _<_}
+-- Laws of the two functions in a cycle: the entry that was found is the book's lookup, and what the code does with an entry is that lookup's deed.
+use mathlib.Core.Path.{_≡_, refl, sym, ap, subst, _∙_}
+use mathlib.Core.Bool.{Bool, true, false}
+use mathlib.Core.List.{List}
+use Prim.Native.Nat.{ℕ, _-_, _*_, _≤_, _<_}
 use native.Mathlib.Omega.{arith}
-use lib.ListN.{length, getD, take, drop, length-take, length-drop}
-use Rattle.glyph.specs.Glyph.{limit}
-use Rattle.text.specs.Text.{Text, textOf, sizeOf, movedTo, Fits}
-use Rattle.text.specs.Changes.{size-is}
-use Rattle.text.specs.Laws.{sizes}
+use lib.ListN.{length, length-take, length-drop}
+use Rattle.text.specs.Text.{textOf}
 use Rattle.book.specs.declared.Entry.{Entry}
 use Rattle.book.specs.declared.Part.{Part}
-use Rattle.book.specs.Book.{Record, Lookup, Kind1, Kind2, Kind3, Reading, Reads, Unreadable, Found, Is, None, recordsOf, readBook, lookupAt, mostInput, lookupsOf}
-use Rattle.book.specs.Places.{partOf, meant, indexOf, foundIn, foundAt}
+use Rattle.book.specs.declared.ChainParts.{ChainParts}
+use Rattle.book.specs.Book.{Record, Chain, Kind3, Found, Is, recordsOf, lookupAt, mostInput, mostRecords, lookupsOf}
+use Rattle.book.specs.Places.{partOf, chainOf, meant, isChain, foundIn, foundAt}
 use Rattle.book.specs.Inside.{Inside, Good}
 use Rattle.book.specs.Finds.{found-is, found-inside}
-use Rattle.book.specs.Records.{records-step}
 use Rattle.runs.specs.declared.Given.{Given}
-use Rattle.runs.specs.Repair.{Level, repaired, Sound}
-use Rattle.runs.specs.Run.{Run, Stage, Match, Matched, Unmatched, size, when, opened, chainedBy, appliedBy, placeOf, isDue, arrived, followedBy, triedBy, dueBy, stepBy, recordsBy, closed, chainRun, lookupRun, mostAllowance}
+use Rattle.runs.specs.Repair.{Level, Sound}
+use Rattle.runs.specs.Run.{Run, Stage, Match, Matched, Unmatched, opened, chainedBy, doneBy, chainRun, lookupRun}
 use Rattle.runs.specs.Rises.{rises-wider}
-use Rattle.runs.specs.Kept as kept
-use Rattle.runs.specs.Kept.{Kept, Fitting, Fair, Keeps, step-good, lookup-keeps, due-shows}
-use Rattle.runs.specs.Tries.{Adds, step-adds, lookup-adds}
-use Rattle.runs.specs.Chain.{chainMatch, ruled}
-use Rattle.runs.specs.ChainLaws.{FewValues, chain-fair}
+use Rattle.runs.specs.Kept.{Fitting, Fair}
+use Rattle.runs.specs.Chain.{asks, chainMatch}
+use Rattle.runs.specs.ChainLaws.{chain-fitting}
+use Rattle.runs.specs.Deeds.{idsOf, deedBy, ruled}
+use Rattle.runs.specs.DeedLaws.{few-ids, ruled-fair}
 use Rattle.levels.specs.declared.Slots.{Slots}
 use Rattle.levels.specs.Slots.{levelOf, shown, Neat}
-use Rattle.levels.specs.Laws.{level-shown, shown-neat, count-is}
+use Rattle.levels.specs.Laws.{level-shown, shown-neat}
 use Rattle.aims.specs.declared.Aim.{Aim}
 use Rattle.aims.specs.Aim.{aimAt, aimedAt}
 use Rattle.steps.specs.declared.State.{State}
-use Rattle.steps.specs.declared.Ready.{Ready}
-use Rattle.steps.specs.State.{runOf, stageOf, Ran, Able, at, Judgement, judged, readied, Prepared, actedBy}
+use Rattle.steps.specs.State.{runOf, stageOf, actedBy}
 use Rattle.chains.specs.Levels.{Indexed}
 
 -- ---- the book
+
+-- a chain whose parts are good has few input values
+few-input : (ws : List ℕ) (c : ChainParts) → Inside (length ws) mostInput (c .input) → length (chainOf ws c .input) ≤ mostInput
+few-input ws c i = simp (length-take, length-drop) (omega (arith, i .few))
+
+few-by : (ws : List ℕ) (e : Entry) (props : ℕ) (c : Chain ℕ) → Good (length ws) e → meant ws e ≡ Is (Kind3 props c) → length (c .input) ≤ mostInput
+few-by ws (Entry.Chain props′ parts) props c g e =
+    let q : chainOf ws parts ≡ c = cc in
+    subst (λ (k : Chain ℕ). length (k .input) ≤ mostInput) q (few-input ws parts (g .input))
+few-by ws (Entry.One p f t) props c g e = let z : _≡_ {A = ℕ} 0 1 = cc in absurd (omega arith)
+few-by ws (Entry.Many p f i) props c g e = let z : _≡_ {A = ℕ} 0 1 = cc in absurd (omega arith)
+few-by ws Entry.Missing props c g e = let z : _≡_ {A = ℕ} 0 1 = cc in absurd (omega arith)
 
 module _ {ws starts : List ℕ} {count : ℕ} (x : Indexed ws starts count) where
   pub entry-meant : (k : ℕ) → meant ws (foundIn ws starts count k) ≡ lookupAt k (lookupsOf ws)
@@ -44,96 +52,111 @@ module _ {ws starts : List ℕ} {count : ℕ} (x : Indexed ws starts count) wher
   pub entry-good : (k : ℕ) → Good (length ws) (foundIn ws starts count k)
   entry-good k = found-inside ws starts count k
 
-  few-by : (e : Entry) (props first : ℕ) (back input onward : List ℕ) (records : List Record) → Good (length ws) e → meant ws e ≡ Is (Kind3 props first back input onward records) → length input ≤ mostInput
-  few-by (Entry.Chain props′ first′ back′ input′ onward′ records′) props first back input onward records g e =
-      let q : partOf ws input′ ≡ input = cc in
-      let i = g .1 in
-      let l : length (partOf ws input′) ≤ mostInput = simp (length-take, length-drop) (omega (arith, i .few)) in
-      subst (λ (v : List ℕ). length v ≤ mostInput) q l
-  few-by (Entry.One p f t) props first back input onward records g e = let z : _≡_ {A = ℕ} 0 1 = cc in absurd (omega arith)
-  few-by (Entry.Many p f i) props first back input onward records g e = let z : _≡_ {A = ℕ} 0 1 = cc in absurd (omega arith)
-  few-by Entry.Missing props first back input onward records g e = let z : _≡_ {A = ℕ} 0 1 = cc in absurd (omega arith)
-
   pub book-fair : (given : Given) (sets : List ℕ) → Fair (ruled given sets) (lookupsOf ws)
-  book-fair given sets =
-      chain-fair given sets (lookupsOf ws)
-      (λ k props first back input onward records e. few-by (foundIn ws starts count k) props first back input onward records (entry-good k) (entry-meant k ∙ e))
+  book-fair given sets = ruled-fair given sets (lookupsOf ws) (λ k props c e. few-by ws (foundIn ws starts count k) props c (entry-good k) (entry-meant k ∙ e))
 
--- ---- a lookup, by the entry that was found
+  -- the deed of the entry that was found is lookup k's
+  pub entry-run : (given : Given) (sets : List ℕ) (depth k : ℕ) (e : Entry) → e ≡ foundIn ws starts count k → (y : Run)
+      → doneBy (chainRun (ruled given sets) (lookupsOf ws) depth) (ruled given sets .deed (meant ws e)) y ≡ lookupRun (ruled given sets) (lookupsOf ws) depth k y
+  entry-run given sets depth k e is y =
+      ap (λ (f : Found). doneBy (chainRun (ruled given sets) (lookupsOf ws) depth) (ruled given sets .deed f) y) (ap (meant ws) is ∙ entry-meant k)
 
-module _ (given : Given) (sets ws : List ℕ) (depth : ℕ) (done coming : List ℕ) (s : State) where
+-- ---- a lookup, by its entry
+
+module _ (given : Given) (sets ws : List ℕ) (depth : ℕ) (done coming : List ℕ) (s : State) (e : Entry) where
   abbrev levelRun : List Record → Stage → Stage
   levelRun rs v = chainRun (ruled given sets) (lookupsOf ws) depth rs v
 
-  staged : (ps : List ℕ) (end : ℕ) → stageOf done coming s (shown (record { live = true; positions = ps; end = end })) ≡ opened ps end (runOf done coming s)
-  staged ps end = let e = level-shown (record { live = true; positions = ps; end = end }) in λ j. record { level = e j; run = runOf done coming s }
+  abbrev run : Run
+  run = runOf done coming s
+
+  -- what the lookup does, by the definition
+  abbrev pub deedRun : Run
+  deedRun = doneBy (chainRun (ruled given sets) (lookupsOf ws) depth) (ruled given sets .deed (meant ws e)) (runOf done coming s)
+
+  -- one that acts by itself
+  acts-by : (b : Entry) → isChain b ≡ false → actedBy ws b run ≡ doneBy levelRun (ruled given sets .deed (meant ws b)) run
+  unfolding deedBy
+  acts-by (Entry.Chain props parts) h = let z : _≡_ {A = ℕ} 0 1 = cc in absurd (omega arith)
+  acts-by (Entry.One props from to) h = refl
+  acts-by (Entry.Many props from ids) h = refl
+  acts-by Entry.Missing h = refl
+
+  pub look-acts : isChain e ≡ false → actedBy ws e (runOf done coming s) ≡ deedRun
+  look-acts h = acts-by e h
+
+  -- a chain, by whether it matched
+  staged : (ps : List ℕ) (end : ℕ) → stageOf done coming s (shown (record { live = true; positions = ps; end = end })) ≡ opened ps end run
+  staged ps end = let l = level-shown (record { live = true; positions = ps; end = end }) in λ j. record { level = l j; run = run }
 
   hit-match : (records : Part) (m : Match) → aimAt records m .hit ≡ true
-      → levelRun (recordsOf (partOf ws (aimAt records m .records))) (stageOf done coming s (aimAt records m .level)) .run ≡ chainedBy (levelRun (recordsOf (partOf ws records))) m (runOf done coming s)
+      → levelRun (recordsOf (partOf ws (aimAt records m .records))) (stageOf done coming s (aimAt records m .level)) .run
+      ≡ chainedBy (levelRun (recordsOf (partOf ws records))) m run
   hit-match records (Matched ps end) h = ap (λ (v : Stage). levelRun (recordsOf (partOf ws records)) v .run) (staged ps end)
   hit-match records Unmatched h = let z : _≡_ {A = ℕ} 0 1 = cc in absurd (omega arith)
 
-  miss-match : (records : Part) (m : Match) → aimAt records m .hit ≡ false → runOf done coming s ≡ chainedBy (levelRun (recordsOf (partOf ws records))) m (runOf done coming s)
+  miss-match : (records : Part) (m : Match) → aimAt records m .hit ≡ false → run ≡ chainedBy (levelRun (recordsOf (partOf ws records))) m run
   miss-match records (Matched ps end) h = let z : _≡_ {A = ℕ} 0 1 = cc in absurd (omega arith)
   miss-match records Unmatched h = refl
 
   abbrev aimed : Entry → Aim
-  aimed e = aimedAt given sets ws e (textOf done coming (s .place))
+  aimed b = aimedAt given sets ws b (textOf done coming (s .place))
 
-  hit-by : (e : Entry) → aimed e .hit ≡ true
-      → levelRun (recordsOf (partOf ws (aimed e .records))) (stageOf done coming s (aimed e .level)) .run ≡ appliedBy (ruled given sets) levelRun (meant ws e) (runOf done coming s)
-  hit-by (Entry.Chain props first back input onward records) h =
-      hit-match records (chainMatch given sets (Kind3 props first (partOf ws back) (partOf ws input) (partOf ws onward) (recordsOf (partOf ws records))) (textOf done coming (s .place))) h
+  abbrev matched : ℕ → ChainParts → Match
+  matched props c = chainMatch given sets props (idsOf (chainOf ws c)) (textOf done coming (s .place))
+
+  hit-by : (b : Entry) → aimed b .hit ≡ true
+      → levelRun (recordsOf (partOf ws (aimed b .records))) (stageOf done coming s (aimed b .level)) .run ≡ doneBy levelRun (ruled given sets .deed (meant ws b)) run
+  unfolding deedBy
+  hit-by (Entry.Chain props c) h = hit-match (c .records) (matched props c) h
   hit-by (Entry.One props from to) h = let z : _≡_ {A = ℕ} 0 1 = cc in absurd (omega arith)
   hit-by (Entry.Many props from ids) h = let z : _≡_ {A = ℕ} 0 1 = cc in absurd (omega arith)
   hit-by Entry.Missing h = let z : _≡_ {A = ℕ} 0 1 = cc in absurd (omega arith)
 
-  miss-by : (e : Entry) → aimed e .hit ≡ false → actedBy ws e (runOf done coming s) ≡ appliedBy (ruled given sets) levelRun (meant ws e) (runOf done coming s)
-  miss-by (Entry.Chain props first back input onward records) h =
-      miss-match records (chainMatch given sets (Kind3 props first (partOf ws back) (partOf ws input) (partOf ws onward) (recordsOf (partOf ws records))) (textOf done coming (s .place))) h
-  miss-by (Entry.One props from to) h = refl
-  miss-by (Entry.Many props from ids) h = refl
-  miss-by Entry.Missing h = refl
+  miss-by : (b : Entry) → isChain b ≡ true → aimed b .hit ≡ false → run ≡ doneBy levelRun (ruled given sets .deed (meant ws b)) run
+  unfolding deedBy
+  miss-by (Entry.Chain props c) k h = miss-match (c .records) (matched props c) h
+  miss-by (Entry.One props from to) k h = let z : _≡_ {A = ℕ} 0 1 = cc in absurd (omega arith)
+  miss-by (Entry.Many props from ids) k h = let z : _≡_ {A = ℕ} 0 1 = cc in absurd (omega arith)
+  miss-by Entry.Missing k h = let z : _≡_ {A = ℕ} 0 1 = cc in absurd (omega arith)
 
-  module _ {starts : List ℕ} {count : ℕ} (x : Indexed ws starts count) (k : ℕ) (e : Entry) (is : e ≡ foundIn ws starts count k) (a : Aim) (a-is : a ≡ aimedAt given sets ws e (textOf done coming (s .place))) where
-    found : appliedBy (ruled given sets) levelRun (meant ws e) (runOf done coming s) ≡ lookupRun (ruled given sets) (lookupsOf ws) depth k (runOf done coming s)
-    found = ap (λ (f : Found). appliedBy (ruled given sets) levelRun f (runOf done coming s)) (ap (meant ws) is ∙ entry-meant x k)
+  -- the level that a chain opens is sound, and its records are in the book
+  pub record Opens (a : Aim) : Type 0 where
+    pub neat : Neat (a .level)
+    pub sound : Sound 0 (length (textOf done coming (s .place) .glyphs)) (levelOf (a .level))
+    pub ordered : a .records .from ≤ a .records .to
+    pub within : a .records .to ≤ length ws
 
+  opens-match : (records : Part) (m : Match) → aimAt records m .hit ≡ true → Fitting (textOf done coming (s .place)) m → Inside (length ws) (2 * mostRecords) records
+      → Opens (aimAt records m)
+  opens-match records (Matched ps end) h fit i =
+      let lv : Level = record { live = true; positions = ps; end = end } in
+      record {
+        neat = shown-neat lv;
+        sound = rw (level-shown lv) (record { few = fit .few; rises = rises-wider 0 end (omega arith) (omega arith) (fit .rises); begins = omega arith; within = fit .within });
+        ordered = i .ordered;
+        within = i .within;
+      }
+  opens-match records Unmatched h fit i = let z : _≡_ {A = ℕ} 0 1 = cc in absurd (omega arith)
+
+  opens-by : (b : Entry) → Good (length ws) b → s .place .d < length (textOf done coming (s .place) .glyphs) → aimed b .hit ≡ true → Opens (aimed b)
+  opens-by (Entry.Chain props c) g h y =
+      opens-match (c .records) (matched props c) y
+      (chain-fitting (asks given props) sets (textOf done coming (s .place)) h (idsOf (chainOf ws c)) (few-ids (chainOf ws c) (few-input ws c (g .input)))) (g .records)
+  opens-by (Entry.One props from to) g h y = let z : _≡_ {A = ℕ} 0 1 = cc in absurd (omega arith)
+  opens-by (Entry.Many props from ids) g h y = let z : _≡_ {A = ℕ} 0 1 = cc in absurd (omega arith)
+  opens-by Entry.Missing g h y = let z : _≡_ {A = ℕ} 0 1 = cc in absurd (omega arith)
+
+  module _ (a : Aim) (is : a ≡ aimedAt given sets ws e (textOf done coming (s .place))) where
     pub look-hit : a .hit ≡ true
-        → chainRun (ruled given sets) (lookupsOf ws) depth (recordsOf (partOf ws (a .records))) (stageOf done coming s (a .level)) .run
-        ≡ lookupRun (ruled given sets) (lookupsOf ws) depth k (runOf done coming s)
-    look-hit h = rw a-is (hit-by e (rw a-is at h) ∙ found)
+        → chainRun (ruled given sets) (lookupsOf ws) depth (recordsOf (partOf ws (a .records))) (stageOf done coming s (a .level)) .run ≡ deedRun
+    look-hit h = rw is (hit-by e (rw is at h))
 
-    pub look-miss : a .hit ≡ false → actedBy ws e (runOf done coming s) ≡ lookupRun (ruled given sets) (lookupsOf ws) depth k (runOf done coming s)
-    look-miss h = miss-by e (rw a-is at h) ∙ found
+    pub look-miss : isChain e ≡ true → a .hit ≡ false → runOf done coming s ≡ deedRun
+    look-miss k h = miss-by e k (rw is at h)
 
-    -- the level that a chain opens is sound
-    sound-match : (records : Part) (m : Match) → aimAt records m .hit ≡ true → Fitting (textOf done coming (s .place)) m
-        → Neat (aimAt records m .level) × Sound 0 (length (textOf done coming (s .place) .glyphs)) (levelOf (aimAt records m .level))
-    sound-match records (Matched ps end) h fit =
-        let lv : Level = record { live = true; positions = ps; end = end } in (
-          shown-neat lv,
-          rw (level-shown lv) (record { few = fit .few; rises = rises-wider 0 end (omega arith) (omega arith) (fit .rises); begins = omega arith; within = fit .within }),
-        )
-    sound-match records Unmatched h fit = let z : _≡_ {A = ℕ} 0 1 = cc in absurd (omega arith)
-
-    sound-by : (b : Entry) → meant ws b ≡ lookupAt k (lookupsOf ws) → Good (length ws) b → s .place .d < length (textOf done coming (s .place) .glyphs) → aimed b .hit ≡ true
-        → (Neat (aimed b .level) × Sound 0 (length (textOf done coming (s .place) .glyphs)) (levelOf (aimed b .level))) × ((aimed b .records .from ≤ aimed b .records .to) × (aimed b .records .to ≤ length ws))
-    sound-by (Entry.Chain props first back input onward records) q g h y =
-        let l : Lookup = Kind3 props first (partOf ws back) (partOf ws input) (partOf ws onward) (recordsOf (partOf ws records)) in
-        let m : Match = chainMatch given sets l (textOf done coming (s .place)) in
-        (sound-match records m y (book-fair x given sets .matches k l (textOf done coming (s .place)) (sym q) h), parts records m y (g .3))
-      where
-        parts : (records : Part) (m : Match) → aimAt records m .hit ≡ true → Inside (length ws) 32 records → (aimAt records m .records .from ≤ aimAt records m .records .to) × (aimAt records m .records .to ≤ length ws)
-        parts records (Matched ps end) y i = (i .ordered, i .within)
-        parts records Unmatched y i = let z : _≡_ {A = ℕ} 0 1 = cc in absurd (omega arith)
-    sound-by (Entry.One props from to) q g h y = let z : _≡_ {A = ℕ} 0 1 = cc in absurd (omega arith)
-    sound-by (Entry.Many props from ids) q g h y = let z : _≡_ {A = ℕ} 0 1 = cc in absurd (omega arith)
-    sound-by Entry.Missing q g h y = let z : _≡_ {A = ℕ} 0 1 = cc in absurd (omega arith)
-
-    pub aim-sound : s .place .d < length (textOf done coming (s .place) .glyphs) → a .hit ≡ true
-        → (Neat (a .level) × Sound 0 (length (textOf done coming (s .place) .glyphs)) (levelOf (a .level))) × ((a .records .from ≤ a .records .to) × (a .records .to ≤ length ws))
-    aim-sound h y = rw a-is (sound-by e (ap (meant ws) is ∙ entry-meant x k) (rw is (entry-good x k)) h (rw a-is at y))
+    pub aim-opens : Good (length ws) e → s .place .d < length (textOf done coming (s .place) .glyphs) → a .hit ≡ true → Opens a
+    aim-opens g h y = rw is (opens-by e g h (rw is at y))
 
 -- ---- a level that is shown
 

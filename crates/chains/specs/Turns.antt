@@ -18,7 +18,7 @@ use Rattle.runs.specs.Rises.{repaired-mends}
 use Rattle.runs.specs.Kept as kept
 use Rattle.runs.specs.Kept.{Kept, Keeps, Due, step-good, lookup-keeps, due-shows, records-good}
 use Rattle.runs.specs.Tries.{Adds, step-adds, lookup-adds}
-use Rattle.runs.specs.Chain.{ruled}
+use Rattle.runs.specs.Deeds.{ruled}
 use Rattle.levels.specs.declared.Slots.{Slots}
 use Rattle.levels.specs.Slots.{levelOf, shown, Neat}
 use Rattle.levels.specs.Laws.{level-shown, shown-neat, count-is}
@@ -47,8 +47,8 @@ step-is : (acts : ℕ → Act) (depth : ℕ) (r : Record) (v : Stage) → stepBy
 step-is acts depth r v = by (isDue r v)
   where
     by : (b : Bool) → when b (dueBy acts depth r) v
-        ≡ when (cond b (judged depth (v .run .left) (arrived r v)) (record { go = false; stage = v }) .go) (tryIt acts r) (cond b (judged depth (v .run .left) (arrived r v)) (record { go = false; stage = v }) .stage)
-    by true = judged-tries acts depth (v .run .left) r (arrived r v)
+        ≡ when (cond b (judged depth (v .run .tally .left) (arrived r v)) (record { go = false; stage = v }) .go) (tryIt acts r) (cond b (judged depth (v .run .tally .left) (arrived r v)) (record { go = false; stage = v }) .stage)
+    by true = judged-tries acts depth (v .run .tally .left) r (arrived r v)
     by false = refl
 
 -- what is so where it is tried
@@ -57,20 +57,20 @@ pub record Goes (depth : ℕ) (r : Record) (v : Stage) (j : Judgement) : Type 0 
   pub due : Due r v
   pub level : j .stage .level ≡ v .level
   pub text : j .stage .run .text ≡ movedTo (placeOf r v) (v .run .text)
-  pub sum : j .stage .run .left + j .stage .run .tries ≡ v .run .left + v .run .tries
+  pub sum : j .stage .run .tally .left + j .stage .run .tally .spent ≡ v .run .tally .left + v .run .tally .spent
 
 goes : (depth : ℕ) (r : Record) (v : Stage) → readied depth r v .go ≡ true → Goes depth r v (readied depth r v)
 unfolding judged
 goes depth r v = by (isDue r v) refl
   where
-    on : (d l : ℕ) → v .run .left ≡ l → Due r v → judged d l (arrived r v) .go ≡ true → Goes d r v (judged d l (arrived r v))
+    on : (d l : ℕ) → v .run .tally .left ≡ l → Due r v → judged d l (arrived r v) .go ≡ true → Goes d r v (judged d l (arrived r v))
     on d zero e u h = let z : _≡_ {A = ℕ} 0 1 = cc in absurd (omega arith)
     on zero (suc l) e u h = let z : _≡_ {A = ℕ} 0 1 = cc in absurd (omega arith)
     on (suc d) (suc l) e u h = record { deep = omega arith; due = u; level = refl; text = refl; sum = omega arith }
 
-    by : (b : Bool) → isDue r v ≡ b → cond b (judged depth (v .run .left) (arrived r v)) (record { go = false; stage = v }) .go ≡ true
-        → Goes depth r v (cond b (judged depth (v .run .left) (arrived r v)) (record { go = false; stage = v }))
-    by true e h = on depth (v .run .left) refl (due-shows r v e) h
+    by : (b : Bool) → isDue r v ≡ b → cond b (judged depth (v .run .tally .left) (arrived r v)) (record { go = false; stage = v }) .go ≡ true
+        → Goes depth r v (cond b (judged depth (v .run .tally .left) (arrived r v)) (record { go = false; stage = v }))
+    by true e h = on depth (v .run .tally .left) refl (due-shows r v e) h
     by false e h = let z : _≡_ {A = ℕ} 0 1 = cc in absurd (omega arith)
 
 -- ---- what is prepared
@@ -111,10 +111,10 @@ module _ (depth : ℕ) (r : Record) (done coming : List ℕ) (s : State) (lv : S
         let c : y .state .place .d ≡ placeOf r v = ap (λ (t : Text). t .cursor) text-same in
         omega (arith, g .due .inside, glyphs-same)
 
-    pub tried-few : y .state .left + y .state .spent ≤ mostAllowance
+    pub tried-few : y .state .tally .left + y .state .tally .spent ≤ mostAllowance
     tried-few =
-        let a : y .state .left ≡ readied depth r v .stage .run .left = ap (λ (w : Stage). w .run .left) ready-stage in
-        let b : y .state .spent ≡ readied depth r v .stage .run .tries = ap (λ (w : Stage). w .run .tries) ready-stage in
+        let a : y .state .tally .left ≡ readied depth r v .stage .run .tally .left = ap (λ (w : Stage). w .run .tally .left) ready-stage in
+        let b : y .state .tally .spent ≡ readied depth r v .stage .run .tally .spent = ap (λ (w : Stage). w .run .tally .spent) ready-stage in
         omega (arith, g .sum, able .few)
 
     -- what the repair asks
@@ -161,7 +161,8 @@ module _ (given : Given) (sets ws : List ℕ) where
         → Able done coming s lv → stageOf done₂ coming₂ s₂ lv₂ ≡ stepBy (nestedAt d) d r (stageOf done coming s lv) → Neat lv₂ → Fits done₂ coming₂ (s₂ .place) → Able done₂ coming₂ s₂ lv₂
     still-able d r done coming s lv done₂ coming₂ s₂ lv₂ a e neat f =
         let v : Stage = stageOf done coming s lv in
-        let sum : s₂ .left + s₂ .spent ≡ s .left + s .spent = ap (λ (w : Stage). w .run .left + w .run .tries) e ∙ step-adds (nestedAt d) (nested-adds d) d r v in
+        let sum : s₂ .tally .left + s₂ .tally .spent ≡ s .tally .left + s .tally .spent =
+        ap (λ (w : Stage). w .run .tally .left + w .run .tally .spent) e ∙ step-adds (nestedAt d) (nested-adds d) d r v in
         let g = step-good (nestedAt d) (nested-keeps d) (λ k. repaired-mends) d r 0 (runOf done coming s) v (record { level = a .sound; kept = record { before = refl; long = omega arith } }) in
         record {
           fits = f;
@@ -220,7 +221,7 @@ module _ (given : Given) (sets ws : List ℕ) where
   pub closed-is : (depth : ℕ) (rs : List Record) (v w : Stage) → w ≡ recordsBy (nestedAt depth) depth rs v
       → closedAt (w .level .end) (w .run) ≡ chainRun (ruled given sets) (lookupsOf ws) depth rs v .run
   unfolding closedAt closed
-  closed-is depth rs v w e = ap (λ (u : Stage). when (not (isOver (u .run .ending))) (changed (movedTo (u .level .end))) (u .run)) e ∙ sym (ap (λ (u : Stage). u .run) (chain-is depth rs v))
+  closed-is depth rs v w e = ap (λ (u : Stage). when (not (isOver (u .run .tally .ending))) (changed (movedTo (u .level .end))) (u .run)) e ∙ sym (ap (λ (u : Stage). u .run) (chain-is depth rs v))
 
   pub closed-level : (depth : ℕ) (rs : List Record) (v w : Stage) → w ≡ recordsBy (nestedAt depth) depth rs v → w .level ≡ chainRun (ruled given sets) (lookupsOf ws) depth rs v .level
   unfolding closed

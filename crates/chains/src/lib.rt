@@ -1,13 +1,17 @@
 // A level of a run, its records in order, and the lookups that they name: two functions in a cycle, over a text in two rows.
+use book::Entry;
 use levels::Slots;
 use runs::Given;
 use steps::State;
 ghost use Prim.Native.Nat.{_+_, _≤_, _<_};
 ghost use Rattle.glyph.specs.Glyph.{limit};
 ghost use Rattle.text.specs.Text.{Fits};
+ghost use lib.ListN.{length};
 ghost use Rattle.book.specs.Book.{recordsOf, lookupsOf};
-ghost use Rattle.runs.specs.Run.{chainRun, lookupRun, mostAllowance};
-ghost use Rattle.runs.specs.Chain.{ruled};
+ghost use Rattle.book.specs.Places.{meant};
+ghost use Rattle.book.specs.Inside.{Good};
+ghost use Rattle.runs.specs.Run.{chainRun, doneBy, mostAllowance};
+ghost use Rattle.runs.specs.Deeds.{ruled};
 ghost use Rattle.steps.specs.State.{runOf, stageOf, Ran, Able};
 ghost use Rattle.chains.specs.Levels.{Indexed, Chained};
 
@@ -47,6 +51,7 @@ pub fn chain(
         if ready.go {
             let here = st.place;
             let old = text::size(here);
+            let e = book::find_in(book, starts, count, k);
             st = lookup(
                 done,
                 coming,
@@ -54,7 +59,7 @@ pub fn chain(
                 starts,
                 count,
                 sets,
-                k,
+                e,
                 st,
                 given,
                 depth - 1,
@@ -73,7 +78,7 @@ pub fn chain(
     }
 }
 
-// A lookup at the cursor. One that isn't in the book does nothing.
+// A lookup at the cursor: it acts by itself, or it is a chain, whose records are done where it matches.
 fn lookup(
     done: &mut [u32],
     coming: &mut [u32],
@@ -81,37 +86,41 @@ fn lookup(
     starts: &[u16; 256],
     count: usize,
     sets: &[u16],
-    k: usize,
+    e: Entry,
     s: State,
     given: Given,
     depth: usize,
 ) -> State
-    requires { ⌜ Indexed (now book) (now starts) count × Fits (now done) (now coming) (s .place) × (s .place .idx < limit) × (s .left + s .spent ≤ mostAllowance) ⌝ }
+    requires { ⌜ Indexed (now book) (now starts) count × Good (length (now book)) e
+        × Fits (now done) (now coming) (s .place) × (s .place .idx < limit) × (s .tally .left + s .tally .spent ≤ mostAllowance) ⌝ }
     ensures { λ r. ⌜ Ran (now (done .exit)) (now (coming .exit)) r
-        (lookupRun (ruled given (now (sets .entry))) (lookupsOf (now (book .entry))) depth k (runOf (now (done .entry)) (now (coming .entry)) s)) ⌝ }
+        (doneBy (chainRun (ruled given (now (sets .entry))) (lookupsOf (now (book .entry))) depth) (ruled given (now (sets .entry)) .deed (meant (now (book .entry)) e))
+        (runOf (now (done .entry)) (now (coming .entry)) s)) ⌝ }
 {
-    let e = book::find_in(book, starts, count, k);
+    if !book::is_chain(e) {
+        return steps::act(done, coming, book, e, s);
+    }
     let place = s.place;
     let aim = aims::take_aim(done, coming, book, sets, e, place, given);
-    if aim.hit {
-        let part = aim.records;
-        let a = part.from;
-        let z = part.to;
-        let lv = aim.level;
-        let r = chain(
-            done,
-            coming,
-            book,
-            starts,
-            count,
-            sets,
-            &book[a..z],
-            lv,
-            s,
-            given,
-            depth,
-        );
-        return r.state;
+    if !aim.hit {
+        return s;
     }
-    steps::act(done, coming, book, e, s)
+    let part = aim.records;
+    let a = part.from;
+    let z = part.to;
+    let lv = aim.level;
+    let r = chain(
+        done,
+        coming,
+        book,
+        starts,
+        count,
+        sets,
+        &book[a..z],
+        lv,
+        s,
+        given,
+        depth,
+    );
+    r.state
 }

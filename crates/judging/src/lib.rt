@@ -9,7 +9,7 @@ ghost use mathlib.Core.Path.{_≡_};
 ghost use mathlib.Core.Bool.{cond};
 ghost use Rattle.verdict.specs.declared.Verdict.{Verdict};
 ghost use Rattle.verdict.specs.declared.MaySkip.{MaySkip};
-ghost use Rattle.verdict.specs.Verdict.{ruledOut, yesIf, valueOf, matchOf, verdict, verdictOf, restOf};
+ghost use Rattle.verdict.specs.Verdict.{ruledOut, yesIf, isYes, valueOf, matchOf, verdict, verdictOf, restOf};
 
 // The mask or the syllable rules the glyph out.
 fn is_ruled_out(m: Matcher, syllable: u8, g: Glyph) -> bool
@@ -33,6 +33,17 @@ fn on_value(sign: Sign, lists: &[u16], g: Glyph) -> MayMatch
         Test::Equal => yes_if(g.id == sign.value),
         Test::Any => MayMatch::Yes,
         Test::Nothing => MayMatch::Maybe,
+    }
+}
+
+// Whether the value alone says Yes.
+pub fn is_value(sign: Sign, lists: &[u16], g: Glyph) -> bool
+    ensures { λ r. ⌜ r ≡ isYes (valueOf sign (now (lists .entry)) g) ⌝ }
+{
+    match on_value(sign, lists, g) {
+        MayMatch::Yes => true,
+        MayMatch::No => false,
+        MayMatch::Maybe => false,
     }
 }
 

@@ -21,7 +21,7 @@ use Rattle.runs.specs.declared.Ending.the-variants.{Finished, Short, Deep, Full
 use Rattle.runs.specs.declared.Given.{Given}
 use Rattle.runs.specs.Repair.{Level}
 use Rattle.runs.specs.Run.{Run, Stage, runOn, movedLevel, mostAllowance, mostDepth}
-use Rattle.runs.specs.Chain.{ruled}
+use Rattle.runs.specs.Deeds.{ruled}
 use Rattle.nested.specs.declared.Refusal.{Refusal}
 use Rattle.nested.specs.declared.Refusal.the-variants.{Shape, Cursor, Limits, Book, Match}
 use Rattle.nested.specs.declared.RunEnding.{RunEnding}
@@ -81,8 +81,8 @@ refusedBy why = record { ending = RunEnding.Refused why; spent = 0; d = 0; idx =
 
 -- what a run leaves: the answer; the text in the rows; and 0 in the cells that are in neither part
 pub record Whole (v : Stage) (done coming : List ℕ) (r : RunAnswer) : Type 0 where
-  pub ending : r .ending ≡ RunEnding.Ended (v .run .ending)
-  pub spent : r .spent ≡ v .run .tries
+  pub ending : r .ending ≡ RunEnding.Ended (v .run .tally .ending)
+  pub spent : r .spent ≡ v .run .tally .spent
   pub count : r .count ≡ length (v .level .positions)
   pub positions : r .positions ≡ slotted (v .level .positions)
   pub holds : Holds done coming (record { d = r .d; idx = r .idx }) (v .run .text)

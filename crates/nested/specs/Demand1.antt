@@ -11,7 +11,7 @@ use Rattle.book.specs.Book.{recordsOf, lookupsOf}
 use Rattle.runs.specs.declared.Ending.{Ending}
 use Rattle.runs.specs.declared.Ending.the-variants.{Finished, Short, Deep, Full}
 use Rattle.runs.specs.Run.{Stage, opened, begun, movedLevel}
-use Rattle.runs.specs.Chain.{ruled}
+use Rattle.runs.specs.Deeds.{ruled}
 use Rattle.runs.specs.Met.{Met}
 use Rattle.runs.specs.Promises.{short-exactly}
 use Rattle.runs.specs.Stops.{MetDepth, MetLimit, deep-exactly, full-exactly}
@@ -55,10 +55,10 @@ module _ (h : Handed) (a d : ℕ) (l : Left) (c : Called h a d l) where
   accepted : (checkedOf h a d ≡ Checked.Accepted) ↔ Acceptable h a d
   accepted = table.accepted h a d (c .book-words)
 
-  told : (e : Ending) → (numberOf l ≡ endingNumber e) ↔ ((checkedOf h a d ≡ Checked.Accepted) × (stageOf h a d .run .ending ≡ e))
+  told : (e : Ending) → (numberOf l ≡ endingNumber e) ↔ ((checkedOf h a d ≡ Checked.Accepted) × (stageOf h a d .run .tally .ending ≡ e))
   told e = told-ended (checkedOf h a d) (stageOf h a d) (h .done) (h .coming) (l .done) (l .coming) (l .answer) e (c .said)
 
-  ends : (e : Ending) {M : Type 0} → (stageOf h a d .run .ending ≡ e) ↔ M → (numberOf l ≡ endingNumber e) ↔ (Acceptable h a d × M)
+  ends : (e : Ending) {M : Type 0} → (stageOf h a d .run .tally .ending ≡ e) ↔ M → (numberOf l ≡ endingNumber e) ↔ (Acceptable h a d × M)
   ends e m = (
     λ z. let t = told e .0 z in (accepted .0 (t .0), m .0 (t .1)),
     λ s. told e .1 (accepted .1 (s .0), m .1 (s .1)),
@@ -84,7 +84,7 @@ module _ (h : Handed) (a d : ℕ) (l : Left) (c : Called h a d l) where
         refused = λ n. Iff·trans (told-refused (checkedOf h a d) (stageOf h a d) (h .done) (h .coming) (l .done) (l .coming) (l .answer) n (c .said)) (table.refused h a d (c .book-words) n);
         unchanged = same-rows (checkedOf h a d) (c .said);
         ended = (
-          λ s. by-ending (stageOf h a d .run .ending) (told (stageOf h a d .run .ending) .1 (accepted .1 s, refl)),
+          λ s. by-ending (stageOf h a d .run .tally .ending) (told (stageOf h a d .run .tally .ending) .1 (accepted .1 s, refl)),
           ⊎-elim (λ z. accepted .0 (told Finished .0 z .0))
               (⊎-elim (λ z. accepted .0 (told Short .0 z .0)) (⊎-elim (λ z. accepted .0 (told Deep .0 z .0)) (λ z. accepted .0 (told Full .0 z .0)))),
         );

@@ -24,7 +24,7 @@ use Rattle.runs.specs.declared.Ending.the-variants.{Finished, Short, Deep, Full
 use Rattle.runs.specs.declared.Given.{Given}
 use Rattle.runs.specs.Repair.{Level}
 use Rattle.runs.specs.Run.{Stage, runOn, movedLevel}
-use Rattle.runs.specs.Chain.{ruled}
+use Rattle.runs.specs.Deeds.{ruled}
 use Rattle.runs.specs.Promises.{Alike, more-is-same, less-is-short, spent-within}
 use Rattle.nested.specs.declared.Refusal.{Refusal}
 use Rattle.nested.specs.declared.Refusal.the-variants.{Shape, Cursor, Limits, Book, Match}
@@ -75,13 +75,13 @@ finished-by Full z = absurd (omega arith)
 -- accepted, ended Finished, and what it left
 record Ended0 (k : Checked) (v : Stage) (done coming : List ℕ) (r : RunAnswer) : Type 0 where
   taken : k ≡ Checked.Accepted
-  finished : v .run .ending ≡ Finished
+  finished : v .run .tally .ending ≡ Finished
   whole : Whole v done coming r
 
 ended-0 : (k : Checked) (v : Stage) (done₀ coming₀ done coming : List ℕ) (r : RunAnswer) → Said k v done₀ coming₀ done coming r → runReply r .number ≡ 0 → Ended0 k v done coming r
 ended-0 (Checked.Refused why) v done₀ coming₀ done coming r s z = absurd (refusal-not-0 why (sym (ap (λ (x : Reply). x .number) (refused-reply r why (s .0))) ∙ z))
 ended-0 Checked.Accepted v done₀ coming₀ done coming r s z =
-    record { taken = refl; finished = finished-by (v .run .ending) (sym (ended-number r (v .run .ending) (s .ending)) ∙ z); whole = s }
+    record { taken = refl; finished = finished-by (v .run .tally .ending) (sym (ended-number r (v .run .tally .ending) (s .ending)) ∙ z); whole = s }
 
 -- what runs that are alike leave is the same
 whole-alike : (v w : Stage) (done coming : List ℕ) (r : RunAnswer) → Alike v w → Whole v done coming r → Whole w done coming r
@@ -143,11 +143,11 @@ module _ (h : Handed) where
           let rules = ruled (h .given) (h .sets) in
           let book = lookupsOf (h .book) in
           let records = recordsOf (h .records) in
-          let some : a′ < stageOf h a d .run .tries = omega (arith, ended .whole .spent) in
+          let some : a′ < stageOf h a d .run .tally .spent = omega (arith, ended .whole .spent) in
           let few = spent-within rules book records (first .positions) (first .end) t d a in
           let lim = accepted h a d (c .book-words) .0 (ended .taken) .limited in
           let w′ = said-whole a′ d l′ c′ (still-accepted (c .book-words) a d a′ d (ended .taken) (omega (arith, lim .0), lim .1)) in
-          let e : stageOf h a′ d .run .ending ≡ Short = less-is-short rules book records (first .positions) (first .end) t d a a′ (ended .finished) some in
+          let e : stageOf h a′ d .run .tally .ending ≡ Short = less-is-short rules book records (first .positions) (first .end) t d a a′ (ended .finished) some in
           ended-number (l′ .answer) Short (w′ .ending ∙ ap RunEnding.Ended e)
 
 -- the number spent is the first value of a reply of 0

@@ -69,7 +69,7 @@ told-refused Checked.Accepted v done coming done′ coming′ r n s = (λ e. abs
 
 -- an ending's number is that ending's
 pub told-ended : (k : Checked) (v : Stage) (done coming done′ coming′ : List ℕ) (r : RunAnswer) (e : Ending) → Said k v done coming done′ coming′ r
-    → (runReply r .number ≡ endingNumber e) ↔ ((k ≡ Checked.Accepted) × (v .run .ending ≡ e))
+    → (runReply r .number ≡ endingNumber e) ↔ ((k ≡ Checked.Accepted) × (v .run .tally .ending ≡ e))
 told-ended (Checked.Refused w) v done coming done′ coming′ r e s = (
   λ z.
       let same : refusalNumber w ≡ endingNumber e = ap (λ (x : Reply). x .number) (sym (refused-reply r w (s .0))) ∙ z in
@@ -77,6 +77,6 @@ told-ended (Checked.Refused w) v done coming done′ coming′ r e s = (
   λ h. let o = h .0 in let z : _≡_ {A = ℕ} 0 1 = cc in absurd (omega arith),
 )
 told-ended Checked.Accepted v done coming done′ coming′ r e s = (
-  λ z. (refl, sym (ending-back (v .run .ending)) ∙ ap endingBy (sym (ended-number r (v .run .ending) (s .ending)) ∙ z) ∙ ending-back e),
-  λ h. ended-number r (v .run .ending) (s .ending) ∙ ap endingNumber (h .1),
+  λ z. (refl, sym (ending-back (v .run .tally .ending)) ∙ ap endingBy (sym (ended-number r (v .run .tally .ending) (s .ending)) ∙ z) ∙ ending-back e),
+  λ h. ended-number r (v .run .tally .ending) (s .ending) ∙ ap endingNumber (h .1),
 )

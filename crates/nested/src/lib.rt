@@ -4,7 +4,6 @@ use matching::InputAnswer;
 use matching::InputMatch;
 use runs::Ending;
 use runs::Given;
-use steps::State;
 use text::Place;
 ghost use mathlib.Core.Path.{_≡_};
 ghost use Prim.Native.Nat.{_≤_, _<_};
@@ -13,7 +12,7 @@ ghost use Rattle.glyph.specs.Glyph.{limit};
 ghost use Rattle.text.specs.Text.{textOf, Fits};
 ghost use Rattle.book.specs.Book.{recordsOf, lookupsOf};
 ghost use Rattle.runs.specs.Run.{begun, chainRun, mostAllowance};
-ghost use Rattle.runs.specs.Chain.{ruled};
+ghost use Rattle.runs.specs.Deeds.{ruled};
 ghost use Rattle.levels.specs.Slots.{levelOf, Neat};
 ghost use Rattle.chains.specs.Levels.{Indexed};
 ghost use Rattle.nested.specs.Calls.{badRecords, checkedFirst, checkedMatch, checkedAll, risesTo, goodPlaces, refusedBy, Whole, runSays, Said};
@@ -261,12 +260,7 @@ fn go(
     ensures { λ r. ⌜ Whole (chainRun (ruled given (now (sets .entry))) (lookupsOf (now (book .entry))) depth (recordsOf (now (records .entry)))
         (record { level = levelOf m; run = begun allowance (textOf (now (done .entry)) (now (coming .entry)) place) })) (now (done .exit)) (now (coming .exit)) r ⌝ }
 {
-    let s = State {
-        place,
-        left: allowance,
-        spent: 0,
-        ending: Ending::Finished,
-    };
+    let s = steps::begin(place, allowance);
     let r = chains::chain(
         done,
         coming,
@@ -284,11 +278,12 @@ fn go(
     let level = r.level;
     let here = last.place;
     text::clear_outside(done, coming, here);
-    let ending = last.ending;
+    let tally = last.tally;
+    let ending = tally.ending;
     let positions = level.at;
     RunAnswer {
         ending: RunEnding::Ended(ending),
-        spent: last.spent,
+        spent: tally.spent,
         d: here.d,
         idx: here.idx,
         count: level.count,

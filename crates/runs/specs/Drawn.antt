@@ -11,11 +11,15 @@ use Rattle.glyph.specs.declared.Glyph.{Glyph}
 use Rattle.glyph.specs.Glyph.{blank}
 use Rattle.glyph.specs.Write.{withId}
 use Rattle.text.specs.Text.{Text, written, copiesBy}
-use Rattle.book.specs.Book.{Record, Lookup}
+use Rattle.verdict.specs.Verdict.{Asked}
+use Rattle.book.specs.Book.{Record, Chain, Lookup, Found}
 use Rattle.runs.specs.declared.Given.{Given}
-use Rattle.runs.specs.Run.{Rules, runOn}
-use Rattle.runs.specs.Related.{Lasting, run-relates}
-use Rattle.runs.specs.Chain.{ruled}
+use Rattle.runs.specs.Run.{Match, runOn}
+use Rattle.runs.specs.Repair.{Repairing}
+use Rattle.runs.specs.Related.{run-relates}
+use Rattle.runs.specs.Chain.{chainMatch}
+use Rattle.runs.specs.Deeds.{rulesBy, ruled}
+use Rattle.runs.specs.DeedLaws.{Written, writing-lasts}
 
 -- what is written for an id has the value of the glyph that it replaces
 abbrev pub Copied : {X : Type 0} → (Glyph → X) → (ℕ → Glyph → Glyph) → Type 0
@@ -52,8 +56,8 @@ module _ {X : Type 0} (f : Glyph → X) where
     at-drawn ids (g ∷ gs) zero h = copies-drawn ids g gs
     at-drawn ids (g ∷ gs) (suc i) h = again refl (past (at-drawn ids gs i (omega arith)))
 
-    pub drawn-lasting : Lasting write (Drawn f)
-    drawn-lasting = record {
+    pub drawn-written : Written write (Drawn f)
+    drawn-written = record {
       same = drawn-same;
       on = λ a b c p q. drawn-on p q;
       one = λ ids t h. rw (add-one (t .cursor)) (at-drawn ids (t .glyphs) (t .cursor) h);
@@ -118,19 +122,20 @@ drawn-never-falls f low (again {h = h} e p) (next g a r) =
 pub drawn-steady : (f : Glyph → ℕ) {before after : List Glyph} → Drawn f before after → Steady f before → Steady f after
 drawn-steady f {before} p s = falls-steady f (drawn-never-falls f 0 p (falls-from f 0 before (λ i h. omega arith) s))
 
--- ---- of any run, for a field that is copied
+-- ---- of any run, for a field that is copied, however chains match and levels are repaired
 
-module _ (rules : Rules) (book : List Lookup) (d : ℕ) (rs : List Record) (positions : List ℕ) (end allowance : ℕ) (t : Text) where
+module _ (match : ℕ → Chain Asked → Text → Match) (write : ℕ → Glyph → Glyph) (repair : Found → Repairing)
+    (book : List Lookup) (d : ℕ) (rs : List Record) (positions : List ℕ) (end allowance : ℕ) (t : Text) where
   abbrev after : List Glyph
-  after = runOn rules book d rs positions end allowance t .run .text .glyphs
+  after = runOn (rulesBy match write repair) book d rs positions end allowance t .run .text .glyphs
 
-  pub run-drawn : {X : Type 0} (f : Glyph → X) → Copied f (rules .write) → Drawn f (t .glyphs) after
-  run-drawn f c = run-relates rules book (Drawn f) (drawn-lasting f (rules .write) c) d rs positions end allowance t
+  pub run-drawn : {X : Type 0} (f : Glyph → X) → Copied f write → Drawn f (t .glyphs) after
+  run-drawn f c = run-relates (rulesBy match write repair) book (Drawn f) (writing-lasts match write (Drawn f) (drawn-written f write c)) d rs positions end allowance t
 
-  pub run-has : {X : Type 0} (f : Glyph → X) → Copied f (rules .write) → (i : ℕ) → i < length after → Has f (t .glyphs) (f (getD after i blank))
+  pub run-has : {X : Type 0} (f : Glyph → X) → Copied f write → (i : ℕ) → i < length after → Has f (t .glyphs) (f (getD after i blank))
   run-has f c i h = drawn-has f (run-drawn f c) i h
 
-  pub run-steady : (f : Glyph → ℕ) → Copied f (rules .write) → Steady f (t .glyphs) → Steady f after
+  pub run-steady : (f : Glyph → ℕ) → Copied f write → Steady f (t .glyphs) → Steady f after
   run-steady f c s = drawn-steady f (run-drawn f c) s
 
 -- ---- today's rules copy all but the id; the mask and the syllable
@@ -148,13 +153,3 @@ mask-copied id g = refl
 pub syllable-copied : Copied syllable written
 unfolding withId
 syllable-copied id g = refl
-
-module _ (given : Given) (sets : List ℕ) (book : List Lookup) (d : ℕ) (rs : List Record) (positions : List ℕ) (end allowance : ℕ) (t : Text) where
-  -- every glyph after has the mask of some glyph before
-  pub masks-were-there : (i : ℕ) → i < length (after (ruled given sets) book d rs positions end allowance t)
-      → Has mask (t .glyphs) (mask (getD (after (ruled given sets) book d rs positions end allowance t) i blank))
-  masks-were-there = run-has (ruled given sets) book d rs positions end allowance t mask mask-copied
-
-  -- syllables that never fall along the text never fall after
-  pub syllables-never-fall : Steady syllable (t .glyphs) → Steady syllable (after (ruled given sets) book d rs positions end allowance t)
-  syllables-never-fall = run-steady (ruled given sets) book d rs positions end allowance t syllable syllable-copied

@@ -1,7 +1,7 @@
 -- What a run keeps to (01, "Records over a text"): the glyphs before a record's position are untouched, and every level stays sound over its text, so that no move leaves the text.
 -- A lookup at the cursor changes only what follows it, and a record's position is never before its level's first; so it goes from record to level and from depth to depth.
 use mathlib.Core.Path.{_≡_, refl, sym, ap, _∙_}
-use mathlib.Core.Bool.{Bool, true, false, cond, not, _&&_}
+use mathlib.Core.Bool.{Bool, true, false, not, _&&_}
 use mathlib.Core.List.{List, [], _∷_}
 use Prim.Native.Nat.{ℕ, zero, suc, _+_, _-_, _≤_, _<_}
 use native.Mathlib.Omega.{arith}
@@ -11,13 +11,12 @@ use lib.ListN.{length, getD, take, drop}
 use lib.Seq.{take-take}
 use Rattle.bits.specs.Laws.{and-left, and-right}
 use Rattle.glyph.specs.declared.Glyph.{Glyph}
-use Rattle.text.specs.Text.{Text, movedTo, replacedBy, isFull}
-use Rattle.text.specs.Changes.{replaced-length, replaced-before}
-use Rattle.book.specs.Book.{Record, Lookup, Kind1, Kind2, Kind3, Found, Is, None, lookupAt}
-use Rattle.runs.specs.declared.Ending.{Ending}
-use Rattle.runs.specs.declared.Ending.the-variants.{Full}
+use Rattle.text.specs.Text.{Text, movedTo}
+use Rattle.book.specs.Book.{Record, Lookup, Found, lookupAt}
 use Rattle.runs.specs.Repair.{Level, Mends, Sound}
-use Rattle.runs.specs.Run.{Run, Stage, Act, Rules, Match, Matched, Unmatched, isOver, size, changed, endingAs, when, isAt, multipliedBy, opened, chainedBy, appliedBy, placeOf, isDue, arrived, spending, followedBy, triedBy, dueBy, stepBy, recordsBy, closed, acting, mending, chainRun, lookupRun}
+use Rattle.runs.specs.Run.{Run, Stage, Act, Made, Into, Stops, madeIn, Match, Matched, Unmatched, Deed, Acts, Chains, Rules, isOver, size, changed, when}
+use Rattle.runs.specs.Run.{inRun, opened, chainedBy, doneBy, placeOf, isDue, arrived, spending, followedBy, triedBy, dueBy, stepBy, recordsBy, closed}
+use Rattle.runs.specs.Run.{acting, mending, deedAt, chainRun, lookupRun}
 use Rattle.runs.specs.Rises.{rises-at}
 
 -- y has the glyphs of x before place p
@@ -30,9 +29,19 @@ abbrev pub Fitting : Text → Match → Type 0
 Fitting t (Matched positions end) = Sound (t .cursor) (length (t .glyphs)) (record { live = true; positions = positions; end = end })
 Fitting t Unmatched = Unit {0}
 
--- the chains of the book match in the text, and repairs keep a level sound
+-- what a lookup makes of a text by itself leaves the glyphs before the cursor
+abbrev pub Sparing : Text → Made → Type 0
+Sparing t (Into u) = (take (t .cursor) (u .glyphs) ≡ take (t .cursor) (t .glyphs)) × (t .cursor ≤ length (u .glyphs))
+Sparing t (Stops why) = Unit {0}
+
+-- at a cursor in the text
+abbrev pub FairDeed : Deed → Type 0
+FairDeed (Acts act) = (t : Text) → t .cursor < length (t .glyphs) → Sparing t (act t)
+FairDeed (Chains match records) = (t : Text) → t .cursor < length (t .glyphs) → Fitting t (match t)
+
+-- the lookups of the book leave what is before the cursor, their chains match in the text, and repairs keep a level sound
 pub record Fair (rules : Rules) (book : List Lookup) : Type 0 where
-  pub matches : (k : ℕ) (l : Lookup) (t : Text) → lookupAt k book ≡ Is l → t .cursor < length (t .glyphs) → Fitting t (rules .match l t)
+  pub deeds : (k : ℕ) → FairDeed (deedAt rules book k)
   pub mends : (found : Found) → Mends (rules .repair found)
 
 -- a lookup keeps what is before the cursor
@@ -57,22 +66,9 @@ same-kept p x y e h = record { before = ap (λ (g : List Glyph). take p g) e; lo
 
 -- ---- a lookup
 
-replaced-keeps : (write : ℕ → Glyph → Glyph) (ids : List ℕ) → Keeps (changed (replacedBy write ids))
-replaced-keeps write ids x h = record { before = replaced-before write ids (x .text) (omega arith); long = omega (arith, replaced-length write ids (x .text) h) }
-
-when-keeps : (c : Run → Bool) (f : Run → Run) → Keeps f → Keeps (λ x. when (c x) f x)
-when-keeps c f F x h = by (c x)
-  where
-    by : (b : Bool) → Kept (x .text .cursor) x (when b f x)
-    by true = F x h
-    by false = same-kept (x .text .cursor) x x refl (omega arith)
-
-multiplied-keeps : (write : ℕ → Glyph → Glyph) (ids : List ℕ) → Keeps (multipliedBy write ids)
-multiplied-keeps write ids x h = by (isFull (size x) (length ids))
-  where
-    by : (b : Bool) → Kept (x .text .cursor) x (cond b (endingAs Full x) (changed (replacedBy write ids) x))
-    by true = same-kept (x .text .cursor) x (endingAs Full x) refl (omega arith)
-    by false = replaced-keeps write ids x h
+made-keeps : (m : Made) (x : Run) → x .text .cursor < size x → Sparing (x .text) m → Kept (x .text .cursor) x (madeIn m x)
+made-keeps (Into u) x h s = record { before = s .0; long = s .1 }
+made-keeps (Stops why) x h s = same-kept (x .text .cursor) x (madeIn (Stops why) x) refl (omega arith)
 
 -- the records of a level keep it good
 abbrev pub KeepsLevel : (Stage → Stage) → Type 0
@@ -83,15 +79,9 @@ chained-keeps f F x (Matched positions end) h s =
     F (x .text .cursor) x (opened positions end x) (record { level = s; kept = same-kept (x .text .cursor) x x refl (omega arith) }) .kept
 chained-keeps f F x Unmatched h s = same-kept (x .text .cursor) x x refl (omega arith)
 
-module _ (rules : Rules) (book : List Lookup) (fair : Fair rules book) where
-  applied-keeps : (chain : List Record → Stage → Stage) → ((rs : List Record) → KeepsLevel (chain rs)) → (k : ℕ) (found : Found) → lookupAt k book ≡ found
-      → Keeps (appliedBy rules chain found)
-  applied-keeps chain C k (Is (Kind1 props from to)) e = when-keeps (isAt from) (changed (replacedBy (rules .write) (to ∷ []))) (replaced-keeps (rules .write) (to ∷ []))
-  applied-keeps chain C k (Is (Kind2 props from ids)) e = when-keeps (isAt from) (multipliedBy (rules .write) ids) (multiplied-keeps (rules .write) ids)
-  applied-keeps chain C k (Is (Kind3 props first back input ahead rs)) e = λ x h.
-      chained-keeps (chain rs) (C rs) x (rules .match (Kind3 props first back input ahead rs) (x .text)) h
-      (fair .matches k (Kind3 props first back input ahead rs) (x .text) e h)
-  applied-keeps chain C k None e = λ x h. same-kept (x .text .cursor) x x refl (omega arith)
+done-keeps : (chain : List Record → Stage → Stage) → ((rs : List Record) → KeepsLevel (chain rs)) → (deed : Deed) → FairDeed deed → Keeps (doneBy chain deed)
+done-keeps chain C (Acts act) f x h = made-keeps (act (x .text)) x h (f (x .text) h)
+done-keeps chain C (Chains match rs) f x h = chained-keeps (chain rs) (C rs) x (match (x .text)) h (f (x .text) h)
 
 -- ---- a record, for any lookups that keep what is before the cursor, and any repairs that keep a level sound
 
@@ -104,7 +94,7 @@ pub record Due (r : Record) (v : Stage) : Type 0 where
 pub due-shows : (r : Record) (v : Stage) → isDue r v ≡ true → Due r v
 due-shows r v e =
     let a = v .level .live in
-    let b = not (isOver (v .run .ending)) in
+    let b = not (isOver (v .run .tally .ending)) in
     let i = ltb (r .seq) (length (v .level .positions)) in
     let p = ltb (placeOf r v) (size (v .run)) in
     let e₁ = and-right a (b && (i && p)) e in
@@ -140,7 +130,7 @@ module _ (acts : ℕ → Act) (K : (k : ℕ) → Keeps (acts k .does)) (M : (k :
   step-good d r low x v g = by (isDue r v) refl
     where
       by : (b : Bool) → isDue r v ≡ b → Good low x (when b (dueBy acts d r) v)
-      by true e = tried-good d (v .run .left) r low x v (due-shows r v e) g
+      by true e = tried-good d (v .run .tally .left) r low x v (due-shows r v e) g
       by false e = g
 
   pub records-good : (d : ℕ) (rs : List Record) → KeepsLevel (recordsBy acts d rs)
@@ -150,9 +140,9 @@ module _ (acts : ℕ → Act) (K : (k : ℕ) → Keeps (acts k .does)) (M : (k :
 
 closed-good : KeepsLevel closed
 unfolding closed
-closed-good low x v g = by (not (isOver (v .run .ending)))
+closed-good low x v g = by (not (isOver (v .run .tally .ending)))
   where
-    by : (b : Bool) → Good low x (record { level = v .level; run = when b (changed (movedTo (v .level .end))) (v .run) })
+    by : (b : Bool) → Good low x (inRun (when b (changed (movedTo (v .level .end)))) v)
     by true = record { level = g .level; kept = record { before = g .kept .before; long = g .kept .long } }
     by false = record { level = g .level; kept = g .kept }
 
@@ -164,8 +154,8 @@ module _ (rules : Rules) (book : List Lookup) (fair : Fair rules book) where
   unfolding chainRun
   chain-good zero rs low x v g = closed-good low x _ (records-good (acting (mending rules book) (λ k y. y)) (λ k y h. same-kept (y .text .cursor) y y refl (omega arith)) (λ k. fair .mends (lookupAt k book)) zero rs low x v g)
   chain-good (suc d) rs low x v g =
-      closed-good low x _ (records-good (acting (mending rules book) (lookupRun rules book d)) (λ k. applied-keeps rules book fair (chainRun rules book d) (chain-good d) k (lookupAt k book) refl) (λ k. fair .mends (lookupAt k book)) (suc d) rs low x v g)
+      closed-good low x _ (records-good (acting (mending rules book) (lookupRun rules book d)) (λ k. done-keeps (chainRun rules book d) (chain-good d) (deedAt rules book k) (fair .deeds k)) (λ k. fair .mends (lookupAt k book)) (suc d) rs low x v g)
 
   -- a lookup leaves the glyphs before the cursor untouched
   pub lookup-keeps : (d k : ℕ) → Keeps (lookupRun rules book d k)
-  lookup-keeps d k = applied-keeps rules book fair (chainRun rules book d) (chain-good d) k (lookupAt k book) refl
+  lookup-keeps d k = done-keeps (chainRun rules book d) (chain-good d) (deedAt rules book k) (fair .deeds k)

@@ -7,8 +7,10 @@ pub mod Spending
 pub mod Tries
 pub mod Promises
 pub mod Chain
+pub mod Deeds
 pub mod ChainLaws
 pub mod Over
 pub mod Stops
 pub mod Related
+pub mod DeedLaws
 pub mod Drawn

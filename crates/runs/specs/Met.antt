@@ -4,8 +4,8 @@ use mathlib.Core.Bool.{true}
 use mathlib.Core.List.{List, [], _∷_}
 use mathlib.Core.Logic.{_⊎_}
 use Prim.Native.Nat.{ℕ, zero, suc}
-use Rattle.book.specs.Book.{Record, Lookup, Kind1, Kind2, Kind3, Found, Is, None, lookupAt}
-use Rattle.runs.specs.Run.{Run, Stage, Act, Rules, Match, Matched, Unmatched, opened, isDue, arrived, spending, stepBy, acting, mending, lookupRun}
+use Rattle.book.specs.Book.{Record, Lookup}
+use Rattle.runs.specs.Run.{Run, Stage, Act, Deed, Acts, Chains, Rules, Match, Matched, Unmatched, opened, isDue, arrived, spending, stepBy, acting, mending, deedAt, lookupRun}
 
 -- at a due record, by the depth and the allowance that are left; `met k x` says it of lookup k, tried on x
 abbrev pub MetTry : (ℕ → Run → Type 0) → ℕ → ℕ → Record → Stage → Type 0
@@ -17,21 +17,19 @@ MetTry met (suc depth) (suc left) r v = met (r .lookup) (spending left (v .run))
 unfoldable pub MetRecords : (ℕ → Run → Type 0) → (ℕ → Act) → ℕ → List Record → Stage → Type 0
 MetRecords met acts depth [] v = ⊥
 MetRecords met acts depth (r ∷ rs) v =
-    ((isDue r v ≡ true) × MetTry met depth (v .run .left) r (arrived r v)) ⊎ MetRecords met acts depth rs (stepBy acts depth r v)
+    ((isDue r v ≡ true) × MetTry met depth (v .run .tally .left) r (arrived r v)) ⊎ MetRecords met acts depth rs (stepBy acts depth r v)
 
 abbrev pub MetMatch : (Stage → Type 0) → Match → Run → Type 0
 MetMatch met (Matched positions end) x = met (opened positions end x)
 MetMatch met Unmatched x = ⊥
 
 -- only a chain has records
-abbrev pub MetLookup : Rules → (List Record → Stage → Type 0) → Found → Run → Type 0
-MetLookup rules met (Is (Kind1 props from to)) x = ⊥
-MetLookup rules met (Is (Kind2 props from ids)) x = ⊥
-MetLookup rules met (Is (Kind3 props first back input ahead records)) x =
-    MetMatch (met records) (rules .match (Kind3 props first back input ahead records) (x .text)) x
-MetLookup rules met None x = ⊥
+abbrev pub MetDeed : (List Record → Stage → Type 0) → Deed → Run → Type 0
+MetDeed met (Acts act) x = ⊥
+MetDeed met (Chains match records) x = MetMatch (met records) (match (x .text)) x
 
 -- a due record of the level, or of a level below it, met allowance 0
 unfoldable pub Met : Rules → List Lookup → ℕ → List Record → Stage → Type 0
 Met rules book zero rs v = MetRecords (λ k x. ⊥) (acting (mending rules book) (λ k x. x)) zero rs v
-Met rules book (suc d) rs v = MetRecords (λ k. MetLookup rules (Met rules book d) (lookupAt k book)) (acting (mending rules book) (lookupRun rules book d)) (suc d) rs v
+Met rules book (suc d) rs v =
+    MetRecords (λ k. MetDeed (Met rules book d) (deedAt rules book k)) (acting (mending rules book) (lookupRun rules book d)) (suc d) rs v

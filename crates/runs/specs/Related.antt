@@ -1,24 +1,36 @@
--- What any run keeps between the text before it and the text after it: every relation of lists of glyphs that is reflexive and transitive and that holds
--- over one replacement at a cursor in the text. So what is promised of whole runs needs only be shown of one replacement.
+-- What any run keeps between the text before it and the text after it: every relation of lists of glyphs that is reflexive and transitive and that each
+-- lookup's own act keeps, at a cursor in the text. So what is promised of whole runs needs only be shown of one act, and where lookups only write, of
+-- one replacement.
 use mathlib.Core.Path.{_≡_, refl}
-use mathlib.Core.Bool.{Bool, true, false, cond, not}
+use mathlib.Core.Bool.{Bool, true, false, not}
 use mathlib.Core.List.{List, [], _∷_}
 use Prim.Native.Nat.{ℕ, zero, suc, _<_}
 use lib.ListN.{length}
 use Rattle.glyph.specs.declared.Glyph.{Glyph}
-use Rattle.text.specs.Text.{Text, movedTo, replacedBy, isFull}
-use Rattle.book.specs.Book.{Record, Lookup, Kind1, Kind2, Kind3, Found, Is, None, lookupAt}
-use Rattle.runs.specs.declared.Ending.the-variants.{Full}
-use Rattle.runs.specs.Run.{Run, Stage, Act, Rules, Match, Matched, Unmatched, isOver, size, changed, endingAs, when, isAt, multipliedBy, opened, begun, chainedBy, appliedBy, isDue, arrived, spending, triedBy, dueBy, stepBy, recordsBy, closed, acting, mending, chainRun, lookupRun, runOn}
+use Rattle.text.specs.Text.{Text, movedTo}
+use Rattle.book.specs.Book.{Record, Lookup, Found, lookupAt}
+use Rattle.runs.specs.Run.{Run, Stage, Act, Made, Into, Stops, madeIn, Match, Matched, Unmatched, Deed, Acts, Chains, Rules, isOver, size, changed}
+use Rattle.runs.specs.Run.{when, opened, begun, chainedBy, doneBy, isDue, arrived, spending, triedBy, dueBy, stepBy, recordsBy, closed}
+use Rattle.runs.specs.Run.{acting, mending, deedAt, chainRun, lookupRun, runOn}
 use Rattle.runs.specs.Kept.{Due, due-shows}
 
--- what a relation has to be, for what is written
-pub record Lasting (write : ℕ → Glyph → Glyph) (R : List Glyph → List Glyph → Type 0) : Type 0 where
+-- a text and what was made of it are related, or nothing was made of it
+abbrev pub RelatedMade : (List Glyph → List Glyph → Type 0) → Text → Made → Type 0
+RelatedMade R t (Into u) = R (t .glyphs) (u .glyphs)
+RelatedMade R t (Stops why) = Unit {0}
+
+-- a chain's own records do the rest
+abbrev pub LastingDeed : (List Glyph → List Glyph → Type 0) → Deed → Type 0
+LastingDeed R (Acts act) = (t : Text) → t .cursor < length (t .glyphs) → RelatedMade R t (act t)
+LastingDeed R (Chains match records) = Unit {0}
+
+-- what a relation has to be, for what lookups do
+pub record Lasting (deed : Found → Deed) (R : List Glyph → List Glyph → Type 0) : Type 0 where
   pub same : (a : List Glyph) → R a a
   pub on : (a b c : List Glyph) → R a b → R b c → R a c
-  pub one : (ids : List ℕ) (t : Text) → t .cursor < length (t .glyphs) → R (t .glyphs) (replacedBy write ids t .glyphs)
+  pub deeds : (found : Found) → LastingDeed R (deed found)
 
-module _ (rules : Rules) (book : List Lookup) (R : List Glyph → List Glyph → Type 0) (lasting : Lasting (rules .write) R) where
+module _ (rules : Rules) (book : List Lookup) (R : List Glyph → List Glyph → Type 0) (lasting : Lasting (rules .deed) R) where
   -- from a cursor in the text
   abbrev Relates : (Run → Run) → Type 0
   Relates f = (x : Run) → x .text .cursor < size x → R (x .text .glyphs) (f x .text .glyphs)
@@ -29,29 +41,20 @@ module _ (rules : Rules) (book : List Lookup) (R : List Glyph → List Glyph →
   unchanged : (x : Run) → R (x .text .glyphs) (x .text .glyphs)
   unchanged x = lasting .same (x .text .glyphs)
 
-  when-relates : (c : Run → Bool) (f : Run → Run) → Relates f → Relates (λ x. when (c x) f x)
-  when-relates c f F x h = by (c x)
-    where
-      by : (b : Bool) → R (x .text .glyphs) (when b f x .text .glyphs)
-      by true = F x h
-      by false = unchanged x
-
-  multiplied-relates : (ids : List ℕ) → Relates (multipliedBy (rules .write) ids)
-  multiplied-relates ids x h = by (isFull (size x) (length ids))
-    where
-      by : (b : Bool) → R (x .text .glyphs) (cond b (endingAs Full x) (changed (replacedBy (rules .write) ids) x) .text .glyphs)
-      by true = unchanged x
-      by false = lasting .one ids (x .text) h
+  made-relates : (m : Made) (x : Run) → RelatedMade R (x .text) m → R (x .text .glyphs) (madeIn m x .text .glyphs)
+  made-relates (Into t) x r = r
+  made-relates (Stops why) x r = unchanged x
 
   chained-relates : (f : Stage → Stage) → RelatesLevel f → (x : Run) (m : Match) → R (x .text .glyphs) (chainedBy f m x .text .glyphs)
   chained-relates f F x (Matched positions end) = F (opened positions end x)
   chained-relates f F x Unmatched = unchanged x
 
-  applied-relates : (chain : List Record → Stage → Stage) → ((rs : List Record) → RelatesLevel (chain rs)) → (found : Found) → Relates (appliedBy rules chain found)
-  applied-relates chain C (Is (Kind1 props from to)) = when-relates (isAt from) (changed (replacedBy (rules .write) (to ∷ []))) (λ x h. lasting .one (to ∷ []) (x .text) h)
-  applied-relates chain C (Is (Kind2 props from ids)) = when-relates (isAt from) (multipliedBy (rules .write) ids) (multiplied-relates ids)
-  applied-relates chain C (Is (Kind3 props first back input ahead rs)) = λ x h. chained-relates (chain rs) (C rs) x (rules .match (Kind3 props first back input ahead rs) (x .text))
-  applied-relates chain C None = λ x h. unchanged x
+  done-relates : (chain : List Record → Stage → Stage) → ((rs : List Record) → RelatesLevel (chain rs)) → (deed : Deed) → LastingDeed R deed → Relates (doneBy chain deed)
+  done-relates chain C (Acts act) l x h = made-relates (act (x .text)) x (l (x .text) h)
+  done-relates chain C (Chains match rs) l x h = chained-relates (chain rs) (C rs) x (match (x .text))
+
+  deed-relates : (chain : List Record → Stage → Stage) → ((rs : List Record) → RelatesLevel (chain rs)) → (k : ℕ) → Relates (doneBy chain (deedAt rules book k))
+  deed-relates chain C k = done-relates chain C (deedAt rules book k) (lasting .deeds (lookupAt k book))
 
   module _ (acts : ℕ → Act) (F : (k : ℕ) → Relates (acts k .does)) where
     tried-relates : (d l : ℕ) (r : Record) (v : Stage) → Due r v → R (v .run .text .glyphs) (triedBy acts d l r (arrived r v) .run .text .glyphs)
@@ -64,7 +67,7 @@ module _ (rules : Rules) (book : List Lookup) (R : List Glyph → List Glyph →
     step-relates d r v = by (isDue r v) refl
       where
         by : (b : Bool) → isDue r v ≡ b → R (v .run .text .glyphs) (when b (dueBy acts d r) v .run .text .glyphs)
-        by true e = tried-relates d (v .run .left) r v (due-shows r v e)
+        by true e = tried-relates d (v .run .tally .left) r v (due-shows r v e)
         by false e = unchanged (v .run)
 
     records-relates : (d : ℕ) (rs : List Record) → RelatesLevel (recordsBy acts d rs)
@@ -74,7 +77,7 @@ module _ (rules : Rules) (book : List Lookup) (R : List Glyph → List Glyph →
 
   closed-same : (v : Stage) → closed v .run .text .glyphs ≡ v .run .text .glyphs
   unfolding closed
-  closed-same v = by (not (isOver (v .run .ending)))
+  closed-same v = by (not (isOver (v .run .tally .ending)))
     where
       by : (b : Bool) → when b (changed (movedTo (v .level .end))) (v .run) .text .glyphs ≡ v .run .text .glyphs
       by true = refl
@@ -89,10 +92,10 @@ module _ (rules : Rules) (book : List Lookup) (R : List Glyph → List Glyph →
   unfolding chainRun
   chain-relates zero rs = closing _ (records-relates (acting (mending rules book) (λ k x. x)) (λ k x h. unchanged x) zero rs)
   chain-relates (suc d) rs =
-      closing _ (records-relates (acting (mending rules book) (lookupRun rules book d)) (λ k. applied-relates (chainRun rules book d) (chain-relates d) (lookupAt k book)) (suc d) rs)
+      closing _ (records-relates (acting (mending rules book) (lookupRun rules book d)) (deed-relates (chainRun rules book d) (chain-relates d)) (suc d) rs)
 
   pub lookup-relates : (d k : ℕ) → Relates (lookupRun rules book d k)
-  lookup-relates d k = applied-relates (chainRun rules book d) (chain-relates d) (lookupAt k book)
+  lookup-relates d k = deed-relates (chainRun rules book d) (chain-relates d) k
 
   -- a run handed a match
   pub run-relates : (d : ℕ) (rs : List Record) (positions : List ℕ) (end allowance : ℕ) (t : Text) → R (t .glyphs) (runOn rules book d rs positions end allowance t .run .text .glyphs)

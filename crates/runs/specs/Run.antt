@@ -1,75 +1,110 @@
 -- What a run of records does to a text (01, "Records over a text"; A's `apply_lookup` and `recurse`).
 -- A chain lookup applies records, and a record applies a lookup: the depth that is left falls from a chain to the lookups of its records.
--- Whether a chain matches at the cursor, and where, what is written for an id in place of a glyph, and how a level is repaired, is asked of `rules`;
--- see Chain.antt for those that 01 gives.
-use mathlib.Core.Bool.{Bool, true, false, cond, not, _&&_}
+-- What a lookup does at the cursor, and how a level is repaired after it, is asked of `rules`; Deeds.antt has those that 01 gives.
+use mathlib.Core.Bool.{Bool, true, false, not, _&&_}
 use mathlib.Core.List.{List, [], _∷_, map}
 use Prim.Native.Nat.{ℕ, zero, suc, _+_, _-_}
-use lib.Dec.{eqb, ltb}
+use lib.Dec.{ltb}
 use lib.ListN.{length, getD}
-use Rattle.glyph.specs.declared.Glyph.{Glyph}
-use Rattle.glyph.specs.Glyph.{blank}
-use Rattle.text.specs.Text.{Text, movedTo, written, replacedBy, isFull}
-use Rattle.book.specs.Book.{Record, Lookup, Kind1, Kind2, Kind3, Found, Is, None, lookupAt}
+use Rattle.text.specs.Text.{Text, movedTo}
+use Rattle.book.specs.Book.{Record, Lookup, Found, lookupAt}
 use Rattle.runs.specs.declared.Ending.{Ending}
 use Rattle.runs.specs.declared.Ending.the-variants.{Finished, Short, Deep, Full}
+use Rattle.runs.specs.declared.Tally.{Tally}
 use Rattle.runs.specs.Repair.{Level, Repairing}
 
--- the text, the allowance that is left, the lookups tried so far, and how it would end now
+-- ---- a run: the text, and the tally, which is the allowance left, the lookups tried so far, and how the run would end now.
+-- Both are made by the helpers below and nowhere else.
+
 pub record Run : Type 0 where
   pub text : Text
-  pub left : ℕ
-  pub tries : ℕ
-  pub ending : Ending
+  pub tally : Tally
 
--- a level at work: its positions and the run
-pub record Stage : Type 0 where
-  pub level : Level
-  pub run : Run
+-- a run that begins: nothing is tried yet
+abbrev pub fresh : ℕ → Tally
+fresh allowance = record { left = allowance; spent = 0; ending = Finished }
 
--- after Deep and Full no record at any level is looked at again
+abbrev pub begun : ℕ → Text → Run
+begun allowance t = record { text = t; tally = fresh allowance }
+
+-- another text, the same tally
+abbrev pub changed : (Text → Text) → Run → Run
+changed f x = record { text = f (x .text); tally = x .tally }
+
+-- another tally, the same text
+abbrev pub tallied : (Tally → Tally) → Run → Run
+tallied f x = record { text = x .text; tally = f (x .tally) }
+
+abbrev pub ended : Ending → Tally → Tally
+ended e y = record { left = y .left; spent = y .spent; ending = e }
+
+abbrev pub endingAs : Ending → Run → Run
+endingAs e x = tallied (ended e) x
+
+-- one try more, with so much left
+abbrev pub spentOne : ℕ → Tally → Tally
+spentOne left y = record { left = left; spent = y .spent + 1; ending = y .ending }
+
+abbrev pub spending : ℕ → Run → Run
+spending left x = tallied (spentOne left) x
+
+abbrev pub size : Run → ℕ
+size x = length (x .text .glyphs)
+
+-- ---- endings
+
+-- after Deep, and after what stops a run for a reason, no record at any level is looked at again
 abbrev pub isOver : Ending → Bool
 isOver Finished = false
 isOver Short = false
 isOver Deep = true
 isOver Full = true
 
-abbrev pub size : Run → ℕ
-size x = length (x .text .glyphs)
+-- why a lookup stops a run: its result would pass the limit. A further reason is a case here and a line of `endingFor`
+pub data Reason : Type 0 where
+  PastLimit : Reason
 
-abbrev pub changed : (Text → Text) → Run → Run
-changed f x = record { text = f (x .text); left = x .left; tries = x .tries; ending = x .ending }
+abbrev pub endingFor : Reason → Ending
+endingFor PastLimit = Full
 
-abbrev pub endingAs : Ending → Run → Run
-endingAs e x = record { text = x .text; left = x .left; tries = x .tries; ending = e }
+-- ---- a level at work: its positions and the run
+
+pub record Stage : Type 0 where
+  pub level : Level
+  pub run : Run
+
+abbrev pub inRun : (Run → Run) → Stage → Stage
+inRun f v = record { level = v .level; run = f (v .run) }
 
 -- a change that a test lets happen
 abbrev pub when : {X : Type 0} → Bool → (X → X) → X → X
 when true f x = f x
 when false f x = x
 
--- ---- a lookup at the cursor; a record's position is in the text, so a glyph is there
+-- ---- what a lookup does at the cursor
 
--- kinds 1 and 2 test only the cursor glyph's id
-abbrev pub isAt : ℕ → Run → Bool
-isAt id x = eqb (getD (x .text .glyphs) (x .text .cursor) blank .id) id
+-- what it makes of a text by itself: another text, which may be the same, or none, and the run stops
+pub data Made : Type 0 where
+  Into : Text → Made
+  Stops : Reason → Made
 
--- kind 2: the glyph becomes one for each id; where the text would pass its limit nothing is written, and the run is Full
-abbrev pub multipliedBy : (ℕ → Glyph → Glyph) → List ℕ → Run → Run
-multipliedBy write ids x = cond (isFull (size x) (length ids)) (endingAs Full x) (changed (replacedBy write ids) x)
-
-abbrev pub multiplied : List ℕ → Run → Run
-multiplied = multipliedBy written
+abbrev pub madeIn : Made → Run → Run
+madeIn (Into t) x = changed (λ u. t) x
+madeIn (Stops why) x = endingAs (endingFor why) x
 
 -- a chain's match: its positions and its end, from the text's first glyph on
 pub data Match : Type 0 where
   Matched : List ℕ → ℕ → Match
   Unmatched : Match
 
--- what a run asks: how a lookup matches a text, what is written for an id in place of a glyph, and how a level is repaired after a lookup acted
+-- a lookup acts by itself, or is a chain, which applies records where it matches
+pub data Deed : Type 0 where
+  Acts : (Text → Made) → Deed
+  Chains : (Text → Match) → List Record → Deed
+
+-- what a run asks: what a lookup does, and how a level is repaired after it
 pub record Rules : Type 0 where
-  pub match : Lookup → Text → Match
-  pub write : ℕ → Glyph → Glyph
+  pub deed : Found → Deed
   pub repair : Found → Repairing
 
 -- a chain that matched opens a level for its records
@@ -80,13 +115,10 @@ abbrev pub chainedBy : (Stage → Stage) → Match → Run → Run
 chainedBy records (Matched positions end) x = records (opened positions end x) .run
 chainedBy records Unmatched x = x
 
--- a lookup, where `chain rs` does the records rs of a level; one that isn't in the book does nothing
-abbrev pub appliedBy : Rules → (List Record → Stage → Stage) → Found → Run → Run
-appliedBy rules chain (Is (Kind1 props from to)) x = when (isAt from x) (changed (replacedBy (rules .write) (to ∷ []))) x
-appliedBy rules chain (Is (Kind2 props from ids)) x = when (isAt from x) (multipliedBy (rules .write) ids) x
-appliedBy rules chain (Is (Kind3 props first back input ahead records)) x =
-    chainedBy (chain records) (rules .match (Kind3 props first back input ahead records) (x .text)) x
-appliedBy rules chain None x = x
+-- a deed done, where `chain rs` does the records rs of a level
+abbrev pub doneBy : (List Record → Stage → Stage) → Deed → Run → Run
+doneBy chain (Acts act) x = madeIn (act (x .text)) x
+doneBy chain (Chains match records) x = chainedBy (chain records) (match (x .text)) x
 
 -- ---- a record
 
@@ -96,18 +128,14 @@ placeOf r v = getD (v .level .positions) (r .seq) 0
 -- a level that goes on in a run that isn't over; a sequence index below the count; a position in the text
 abbrev pub isDue : Record → Stage → Bool
 isDue r v =
-    v .level .live && (not (isOver (v .run .ending)) && (ltb (r .seq) (length (v .level .positions)) && ltb (placeOf r v) (size (v .run))))
+    v .level .live && (not (isOver (v .run .tally .ending)) && (ltb (r .seq) (length (v .level .positions)) && ltb (placeOf r v) (size (v .run))))
 
 abbrev pub arrived : Record → Stage → Stage
-arrived r v = record { level = v .level; run = changed (movedTo (placeOf r v)) (v .run) }
+arrived r v = inRun (changed (movedTo (placeOf r v))) v
 
 -- the level stops
 abbrev pub stopped : Ending → Stage → Stage
 stopped e v = record { level = record { live = false; positions = v .level .positions; end = v .level .end }; run = endingAs e (v .run) }
-
--- one try more, with so much left
-abbrev pub spending : ℕ → Run → Run
-spending left x = record { text = x .text; left = left; tries = x .tries + 1; ending = x .ending }
 
 -- a lookup as a record meets it: what it does to a run, and how the record's level is repaired after it
 pub record Act : Type 0 where
@@ -129,7 +157,7 @@ triedBy acts zero (suc left) r v = stopped Deep v
 triedBy acts (suc depth) (suc left) r v = followedBy (acts (r .lookup) .repair) r v (acts (r .lookup) .does (spending left (v .run)))
 
 abbrev pub dueBy : (ℕ → Act) → ℕ → Record → Stage → Stage
-dueBy acts depth r v = triedBy acts depth (v .run .left) r (arrived r v)
+dueBy acts depth r v = triedBy acts depth (v .run .tally .left) r (arrived r v)
 
 abbrev pub stepBy : (ℕ → Act) → ℕ → Record → Stage → Stage
 stepBy acts depth r v = when (isDue r v) (dueBy acts depth r) v
@@ -140,29 +168,28 @@ unfoldable pub recordsBy : (ℕ → Act) → ℕ → List Record → Stage → S
 recordsBy acts depth [] v = v
 recordsBy acts depth (r ∷ rs) v = recordsBy acts depth rs (stepBy acts depth r v)
 
--- a level ends by moving to its end, except after Deep or Full
+-- a level ends by moving to its end, except in a run that is over
 unfoldable pub closed : Stage → Stage
-closed v = record { level = v .level; run = when (not (isOver (v .run .ending))) (changed (movedTo (v .level .end))) (v .run) }
+closed v = inRun (when (not (isOver (v .run .tally .ending))) (changed (movedTo (v .level .end)))) v
 
 -- ---- the book's lookups, and the records of a level, by the depth that is left
-
--- a run that begins: nothing is tried yet
-abbrev pub begun : ℕ → Text → Run
-begun allowance t = record { text = t; left = allowance; tries = 0; ending = Finished }
 
 module _ (rules : Rules) (book : List Lookup) where
   -- the level of a record of lookup k is repaired as the rules say of that lookup
   abbrev pub mending : ℕ → Repairing
   mending k = rules .repair (lookupAt k book)
 
+  abbrev pub deedAt : ℕ → Deed
+  deedAt k = rules .deed (lookupAt k book)
+
   -- at depth 0 no record's lookup is tried
   unfoldable pub chainRun : ℕ → List Record → Stage → Stage
   chainRun zero rs v = closed (recordsBy (acting mending (λ k x. x)) zero rs v)
-  chainRun (suc d) rs v = closed (recordsBy (acting mending (λ k. appliedBy rules (chainRun d) (lookupAt k book))) (suc d) rs v)
+  chainRun (suc d) rs v = closed (recordsBy (acting mending (λ k. doneBy (chainRun d) (deedAt k))) (suc d) rs v)
 
   -- a lookup whose records have the depth d
   abbrev pub lookupRun : ℕ → ℕ → Run → Run
-  lookupRun d k = appliedBy rules (chainRun d) (lookupAt k book)
+  lookupRun d k = doneBy (chainRun d) (deedAt k)
 
   -- a run handed a match, whose level is the first
   abbrev pub runOn : ℕ → List Record → List ℕ → ℕ → ℕ → Text → Stage

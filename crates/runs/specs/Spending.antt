@@ -4,20 +4,22 @@
 --     chain-core    a chain at depth d, and at d′ ≥ d
 -- A step that spends nothing reads no allowance; a try takes one from both; one after the other adds up. Then by the depth.
 use mathlib.Core.Path.{_≡_, refl, sym, ap, subst, _∙_}
-use mathlib.Core.Bool.{Bool, true, false, cond, not}
+use mathlib.Core.Bool.{Bool, true, false, not}
 use mathlib.Core.List.{List, [], _∷_}
 use Prim.Native.Nat.{ℕ, zero, suc, _<_, _≤_, _+_, _-_}
 use native.Mathlib.Nat.{le-refl}
 use native.Mathlib.Decide.{decLt}
 use native.Mathlib.Omega.{arith}
 use lib.ListN.{length, getD}
-use Rattle.glyph.specs.declared.Glyph.{Glyph}
-use Rattle.text.specs.Text.{Text, movedTo, replacedBy, isFull}
-use Rattle.book.specs.Book.{Record, Lookup, Kind1, Kind2, Kind3, Found, Is, None, lookupAt}
+use Rattle.text.specs.Text.{Text, movedTo}
+use Rattle.book.specs.Book.{Record, Lookup}
 use Rattle.runs.specs.declared.Ending.{Ending}
-use Rattle.runs.specs.declared.Ending.the-variants.{Finished, Short, Deep, Full}
+use Rattle.runs.specs.declared.Ending.the-variants.{Finished, Short, Deep}
 use Rattle.runs.specs.Repair.{Level, Repairing}
-use Rattle.runs.specs.Run.{Run, Stage, Act, Rules, Match, Matched, Unmatched, isOver, size, changed, endingAs, when, isAt, multipliedBy, opened, chainedBy, appliedBy, placeOf, isDue, arrived, spending, followedBy, triedBy, dueBy, stepBy, recordsBy, closed, acting, mending, chainRun, lookupRun}
+use Rattle.runs.specs.Run.{Run, Stage, Act, Reason, endingFor, Made, Into, Stops, madeIn, Match, Matched, Unmatched, Deed, Acts, Chains, Rules, isOver, changed}
+use Rattle.runs.specs.Run.{tallied, endingAs, inRun, when, opened, chainedBy, doneBy, isDue, arrived, spending, followedBy, triedBy, dueBy, stepBy}
+use Rattle.runs.specs.Run.{recordsBy, closed, acting, mending, deedAt, chainRun}
+use Rattle.runs.specs.Over.{reason-over, finished-not-over}
 
 -- out of allowance
 abbrev pub Out : {X : Type 0} → (X → ℕ) → (X → Ending) → X → Type 0
@@ -91,20 +93,20 @@ module _ {X : Type 0} (left : X → ℕ) (ending : X → Ending) (refill : ℕ �
   when-stays false f F = λ x o. o
 
 abbrev pub left : Run → ℕ
-left x = x .left
+left x = x .tally .left
 
 abbrev pub ends : Run → Ending
-ends x = x .ending
+ends x = x .tally .ending
 
 -- the same run with another allowance
 abbrev pub refilled : ℕ → Run → Run
-refilled a x = record { text = x .text; left = a; tries = x .tries; ending = x .ending }
+refilled a x = tallied (λ y. record { left = a; spent = y .spent; ending = y .ending }) x
 
 abbrev pub leftOf : Stage → ℕ
-leftOf v = v .run .left
+leftOf v = v .run .tally .left
 
 abbrev pub endOf : Stage → Ending
-endOf v = v .run .ending
+endOf v = v .run .tally .ending
 
 abbrev pub refilledOf : ℕ → Stage → Stage
 refilledOf a v = record { level = v .level; run = refilled a (v .run) }
@@ -121,8 +123,8 @@ short-not e = let z : _≡_ {A = ℕ} 0 1 = cc in omega arith
 deep-not : Deep ≡ Finished → ⊥
 deep-not e = let z : _≡_ {A = ℕ} 0 1 = cc in omega arith
 
-full-not : Full ≡ Finished → ⊥
-full-not e = let z : _≡_ {A = ℕ} 0 1 = cc in omega arith
+reason-not : (why : Reason) → endingFor why ≡ Finished → ⊥
+reason-not why e = finished-not-over (reason-over why) (sym e)
 
 -- ---- a lookup
 
@@ -132,26 +134,17 @@ changed-core f = silent left ends refilled (changed f) (λ x. refl) (λ x. refl)
 nothing-core : RunCore (λ x. x) (λ x. x)
 nothing-core = silent left ends refilled (λ x. x) (λ x. refl) (λ x. refl) (λ a x. refl)
 
-full-core : RunCore (endingAs Full) (endingAs Full)
-full-core = record {
+stops-core : (why : Reason) → RunCore (endingAs (endingFor why)) (endingAs (endingFor why))
+stops-core why = record {
   falls = λ x. le-refl (left x);
-  sticky = λ x h. absurd (full-not h);
-  enough = λ x s a h q. absurd (full-not h);
-  short = λ x s a h q lt. absurd (full-not h);
+  sticky = λ x h. absurd (reason-not why h);
+  enough = λ x s a h q. absurd (reason-not why h);
+  short = λ x s a h q lt. absurd (reason-not why h);
 }
 
-multiplied-core : (write : ℕ → Glyph → Glyph) (ids : List ℕ) → RunCore (multipliedBy write ids) (multipliedBy write ids)
-multiplied-core write ids =
-    by-core left ends refilled (λ x. isFull (size x) (length ids)) (λ a x. refl)
-    (λ c x. cond c (endingAs Full x) (changed (replacedBy write ids) x)) (λ c x. cond c (endingAs Full x) (changed (replacedBy write ids) x)) go
-  where
-    go : (c : Bool) → RunCore (λ x. cond c (endingAs Full x) (changed (replacedBy write ids) x)) (λ x. cond c (endingAs Full x) (changed (replacedBy write ids) x))
-    go true = full-core
-    go false = changed-core (replacedBy write ids)
-
--- a test on the text alone
-tested-core : (c : Run → Bool) → ((a : ℕ) (x : Run) → c (refilled a x) ≡ c x) → (f : Run → Run) → RunCore f f → RunCore (λ x. when (c x) f x) (λ x. when (c x) f x)
-tested-core c fixed f F = by-core left ends refilled c fixed (λ b. when b f) (λ b. when b f) (λ b. when-core left ends refilled b f f F)
+made-core : (m : Made) → RunCore (madeIn m) (madeIn m)
+made-core (Into t) = changed-core (λ u. t)
+made-core (Stops why) = stops-core why
 
 -- the records of a level, at one depth and at another
 abbrev LevelCore : (Stage → Stage) → (Stage → Stage) → Type 0
@@ -166,20 +159,20 @@ chained-core g g′ G (Matched ps e) = record {
 }
 chained-core g g′ G Unmatched = nothing-core
 
-module _ (rules : Rules) (chain chain′ : List Record → Stage → Stage) (C : (rs : List Record) → LevelCore (chain rs) (chain′ rs)) where
-  applied-core : (found : Found) → RunCore (appliedBy rules chain found) (appliedBy rules chain′ found)
-  applied-core (Is (Kind1 props from to)) = tested-core (isAt from) (λ a x. refl) (changed (replacedBy (rules .write) (to ∷ []))) (changed-core (replacedBy (rules .write) (to ∷ [])))
-  applied-core (Is (Kind2 props from ids)) = tested-core (isAt from) (λ a x. refl) (multipliedBy (rules .write) ids) (multiplied-core (rules .write) ids)
-  applied-core (Is (Kind3 props first back input ahead rs)) =
-      by-core left ends refilled (λ x. rules .match (Kind3 props first back input ahead rs) (x .text)) (λ a x. refl)
+-- a lookup goes by the text alone, which no allowance changes
+module _ (chain chain′ : List Record → Stage → Stage) (C : (rs : List Record) → LevelCore (chain rs) (chain′ rs)) where
+  done-core : (deed : Deed) → RunCore (doneBy chain deed) (doneBy chain′ deed)
+  done-core (Acts act) = by-core left ends refilled (λ x. act (x .text)) (λ a x. refl) madeIn madeIn made-core
+  done-core (Chains match rs) =
+      by-core left ends refilled (λ x. match (x .text)) (λ a x. refl)
       (λ m x. chainedBy (chain rs) m x) (λ m x. chainedBy (chain′ rs) m x) (chained-core (chain rs) (chain′ rs) (C rs))
-  applied-core None = nothing-core
 
 -- ---- a due record
 
-module _ (r : Record) (lv : Level) (t : Text) (n : ℕ) where
+module _ (r : Record) (v : Stage) where
+  -- the stage with another allowance and ending
   abbrev stageAt : ℕ → Ending → Stage
-  stageAt l e = record { level = lv; run = record { text = t; left = l; tries = n; ending = e } }
+  stageAt l e = inRun (tallied (λ y. record { left = l; spent = y .spent; ending = e })) v
 
   -- the run that the record's lookup is handed
   abbrev handed : ℕ → Ending → Run
@@ -256,10 +249,10 @@ records-stays f d (r ∷ rs) v o = records-stays f d rs (stepBy f d r v) (step-s
 module _ (mend : ℕ → Repairing) (f f′ : ℕ → Run → Run) (d d′ : ℕ) (le : d ≤ d′) (F : 1 ≤ d → (k : ℕ) → RunCore (f k) (f′ k)) where
   due-core : (r : Record) → StageCore (dueBy (acting mend f) d r) (dueBy (acting mend f′) d′ r)
   due-core r = record {
-    falls = λ v. due-falls r (v .level) (v .run .text) (v .run .tries) mend f f′ d (leftOf v) (endOf v) (λ h. F h (r .lookup));
-    sticky = λ v. due-sticky r (v .level) (v .run .text) (v .run .tries) mend f f′ d (leftOf v) (endOf v) (λ h. F h (r .lookup));
-    enough = λ v s a. due-enough r (v .level) (v .run .text) (v .run .tries) mend f f′ d d′ (leftOf v) s a (endOf v) le (λ h. F h (r .lookup));
-    short = λ v s a. due-short r (v .level) (v .run .text) (v .run .tries) mend f f′ d d′ (leftOf v) s a (endOf v) le (λ h. F h (r .lookup));
+    falls = λ v. due-falls r v mend f f′ d (leftOf v) (endOf v) (λ h. F h (r .lookup));
+    sticky = λ v. due-sticky r v mend f f′ d (leftOf v) (endOf v) (λ h. F h (r .lookup));
+    enough = λ v s a. due-enough r v mend f f′ d d′ (leftOf v) s a (endOf v) le (λ h. F h (r .lookup));
+    short = λ v s a. due-short r v mend f f′ d d′ (leftOf v) s a (endOf v) le (λ h. F h (r .lookup));
   }
 
   step-core : (r : Record) → StageCore (stepBy (acting mend f) d r) (stepBy (acting mend f′) d′ r)
@@ -278,11 +271,11 @@ module _ (mend : ℕ → Repairing) (f f′ : ℕ → Run → Run) (d d′ : ℕ
 
 -- by whether the run is over
 abbrev closedBy : Bool → Stage → Stage
-closedBy c v = record { level = v .level; run = when c (changed (movedTo (v .level .end))) (v .run) }
+closedBy c v = inRun (when c (changed (movedTo (v .level .end)))) v
 
 closed-core : StageCore closed closed
 unfolding closed
-closed-core = by-core leftOf endOf refilledOf (λ v. not (isOver (v .run .ending))) (λ a v. refl) closedBy closedBy go
+closed-core = by-core leftOf endOf refilledOf (λ v. not (isOver (v .run .tally .ending))) (λ a v. refl) closedBy closedBy go
   where
     go : (c : Bool) → StageCore (closedBy c) (closedBy c)
     go true = silent leftOf endOf refilledOf (closedBy true) (λ v. refl) (λ v. refl) (λ a v. refl)
@@ -290,7 +283,7 @@ closed-core = by-core leftOf endOf refilledOf (λ v. not (isOver (v .run .ending
 
 pub closed-stays : Stays leftOf endOf closed
 unfolding closed
-closed-stays v o = by (not (isOver (v .run .ending)))
+closed-stays v o = by (not (isOver (v .run .tally .ending)))
   where
     by : (c : Bool) → Out leftOf endOf (closedBy c v)
     by true = o
@@ -308,4 +301,4 @@ module _ (rules : Rules) (book : List Lookup) where
   chain-core (suc d) zero le rs = let z : ⊥ = omega arith in absurd z
   chain-core (suc d) (suc d′) le rs =
       closing _ _ (records-core (mending rules book) _ _ (suc d) (suc d′) le
-      (λ h k. applied-core rules (chainRun rules book d) (chainRun rules book d′) (chain-core d d′ (omega arith)) (lookupAt k book)) rs)
+      (λ h k. done-core (chainRun rules book d) (chainRun rules book d′) (chain-core d d′ (omega arith)) (deedAt rules book k)) rs)

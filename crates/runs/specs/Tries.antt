@@ -1,25 +1,26 @@
 -- What was left and what was tried add up to the allowance, and a run is Short exactly when a due record met allowance 0.
 -- Both go from a record to the records of a level, and by the depth to the levels below.
 use mathlib.Core.Path.{_≡_, refl, sym, ap, _∙_}
-use mathlib.Core.Bool.{Bool, true, false, cond, not}
+use mathlib.Core.Bool.{Bool, true, false, not}
 use mathlib.Core.List.{List, [], _∷_}
 use mathlib.Core.Logic.{_↔_, _⊎_, ⊎-elim, inl, inr}
 use Prim.Native.Nat.{ℕ, zero, suc, _<_, _≤_, _+_, _-_}
 use native.Mathlib.Omega.{arith}
-use lib.ListN.{length}
-use Rattle.glyph.specs.declared.Glyph.{Glyph}
-use Rattle.text.specs.Text.{movedTo, replacedBy, isFull}
-use Rattle.book.specs.Book.{Record, Lookup, Kind1, Kind2, Kind3, Found, Is, None, lookupAt}
+use Rattle.text.specs.Text.{movedTo}
+use Rattle.book.specs.Book.{Record, Lookup}
 use Rattle.runs.specs.declared.Ending.{Ending}
-use Rattle.runs.specs.declared.Ending.the-variants.{Finished, Short, Deep, Full}
-use Rattle.runs.specs.Run.{Run, Stage, Act, Rules, Match, Matched, Unmatched, isOver, size, changed, endingAs, when, isAt, multipliedBy, opened, chainedBy, appliedBy, isDue, arrived, spending, triedBy, dueBy, stepBy, recordsBy, closed, acting, mending, chainRun, lookupRun}
+use Rattle.runs.specs.declared.Ending.the-variants.{Finished, Short, Deep}
+use Rattle.runs.specs.Run.{Run, Stage, Act, Reason, endingFor, Made, Into, Stops, madeIn, Match, Matched, Unmatched, Deed, Acts, Chains, Rules, isOver, changed}
+use Rattle.runs.specs.Run.{when, opened, chainedBy, doneBy, isDue, arrived, spending, triedBy, dueBy, stepBy, recordsBy, closed}
+use Rattle.runs.specs.Run.{acting, mending, deedAt, chainRun, lookupRun}
 use Rattle.runs.specs.Spending.{Out, Stays, left, ends, leftOf, endOf, due-out, records-stays, closed-stays, chain-core}
-use Rattle.runs.specs.Met.{MetTry, MetRecords, MetMatch, MetLookup, Met}
+use Rattle.runs.specs.Over.{reason-over, short-not-over}
+use Rattle.runs.specs.Met.{MetTry, MetRecords, MetMatch, MetDeed, Met}
 
--- ---- left and tries
+-- ---- left and spent
 
 abbrev sumOf : Run → ℕ
-sumOf x = x .left + x .tries
+sumOf x = x .tally .left + x .tally .spent
 
 abbrev pub Adds : (Run → Run) → Type 0
 Adds f = (x : Run) → sumOf (f x) ≡ sumOf x
@@ -27,33 +28,20 @@ Adds f = (x : Run) → sumOf (f x) ≡ sumOf x
 abbrev pub AddsUp : (Stage → Stage) → Type 0
 AddsUp f = (v : Stage) → sumOf (f v .run) ≡ sumOf (v .run)
 
-when-adds : (c : Run → Bool) (f : Run → Run) → Adds f → Adds (λ x. when (c x) f x)
-when-adds c f F x = by (c x)
-  where
-    by : (b : Bool) → sumOf (when b f x) ≡ sumOf x
-    by true = F x
-    by false = refl
-
-multiplied-adds : (write : ℕ → Glyph → Glyph) (ids : List ℕ) → Adds (multipliedBy write ids)
-multiplied-adds write ids x = by (isFull (size x) (length ids))
-  where
-    by : (b : Bool) → sumOf (cond b (endingAs Full x) (changed (replacedBy write ids) x)) ≡ sumOf x
-    by true = refl
-    by false = refl
+made-adds : (m : Made) → Adds (madeIn m)
+made-adds (Into t) x = refl
+made-adds (Stops why) x = refl
 
 chained-adds : (g : Stage → Stage) → AddsUp g → (m : Match) → Adds (chainedBy g m)
 chained-adds g G (Matched ps e) x = G (opened ps e x)
 chained-adds g G Unmatched x = refl
 
-applied-adds : (rules : Rules) (chain : List Record → Stage → Stage) → ((rs : List Record) → AddsUp (chain rs)) → (found : Found) → Adds (appliedBy rules chain found)
-applied-adds rules chain C (Is (Kind1 props from to)) x = when-adds (isAt from) (changed (replacedBy (rules .write) (to ∷ []))) (λ y. refl) x
-applied-adds rules chain C (Is (Kind2 props from ids)) x = when-adds (isAt from) (multipliedBy (rules .write) ids) (multiplied-adds (rules .write) ids) x
-applied-adds rules chain C (Is (Kind3 props first back input ahead rs)) x =
-    chained-adds (chain rs) (C rs) (rules .match (Kind3 props first back input ahead rs) (x .text)) x
-applied-adds rules chain C None x = refl
+done-adds : (chain : List Record → Stage → Stage) → ((rs : List Record) → AddsUp (chain rs)) → (deed : Deed) → Adds (doneBy chain deed)
+done-adds chain C (Acts act) x = made-adds (act (x .text)) x
+done-adds chain C (Chains match rs) x = chained-adds (chain rs) (C rs) (match (x .text)) x
 
 module _ (f : ℕ → Act) (F : (k : ℕ) → Adds (f k .does)) where
-  tried-adds : (d l : ℕ) (r : Record) (v : Stage) → v .run .left ≡ l → sumOf (triedBy f d l r v .run) ≡ sumOf (v .run)
+  tried-adds : (d l : ℕ) (r : Record) (v : Stage) → v .run .tally .left ≡ l → sumOf (triedBy f d l r v .run) ≡ sumOf (v .run)
   unfolding triedBy
   tried-adds d zero r v e = refl
   tried-adds zero (suc l) r v e = refl
@@ -63,7 +51,7 @@ module _ (f : ℕ → Act) (F : (k : ℕ) → Adds (f k .does)) where
   step-adds d r v = by (isDue r v)
     where
       by : (b : Bool) → sumOf (when b (dueBy f d r) v .run) ≡ sumOf (v .run)
-      by true = tried-adds d (v .run .left) r (arrived r v) refl
+      by true = tried-adds d (v .run .tally .left) r (arrived r v) refl
       by false = refl
 
   records-adds : (d : ℕ) (rs : List Record) → AddsUp (recordsBy f d rs)
@@ -73,7 +61,7 @@ module _ (f : ℕ → Act) (F : (k : ℕ) → Adds (f k .does)) where
 
 closed-adds : AddsUp closed
 unfolding closed
-closed-adds v = by (not (isOver (v .run .ending)))
+closed-adds v = by (not (isOver (v .run .tally .ending)))
   where
     by : (b : Bool) → sumOf (when b (changed (movedTo (v .level .end))) (v .run)) ≡ sumOf (v .run)
     by true = refl
@@ -84,10 +72,10 @@ pub chain-adds : (rules : Rules) (book : List Lookup) (d : ℕ) (rs : List Recor
 unfolding chainRun
 chain-adds rules book zero rs v = closed-adds _ ∙ records-adds (acting (mending rules book) (λ k x. x)) (λ k x. refl) zero rs v
 chain-adds rules book (suc d) rs v =
-    closed-adds _ ∙ records-adds (acting (mending rules book) (lookupRun rules book d)) (λ k. applied-adds rules (chainRun rules book d) (chain-adds rules book d) (lookupAt k book)) (suc d) rs v
+    closed-adds _ ∙ records-adds (acting (mending rules book) (lookupRun rules book d)) (λ k. done-adds (chainRun rules book d) (chain-adds rules book d) (deedAt rules book k)) (suc d) rs v
 
 pub lookup-adds : (rules : Rules) (book : List Lookup) (d k : ℕ) → Adds (lookupRun rules book d k)
-lookup-adds rules book d k = applied-adds rules (chainRun rules book d) (chain-adds rules book d) (lookupAt k book)
+lookup-adds rules book d k = done-adds (chainRun rules book d) (chain-adds rules book d) (deedAt rules book k)
 
 -- ---- a due record that meets allowance 0
 
@@ -99,39 +87,24 @@ pub record Told {X : Type 0} (leftIn : X → ℕ) (endIn : X → Ending) (f : X 
 deep-short : Deep ≡ Short → ⊥
 deep-short e = let z : _≡_ {A = ℕ} 0 1 = cc in omega arith
 
-full-short : Full ≡ Short → ⊥
-full-short e = let z : _≡_ {A = ℕ} 0 1 = cc in omega arith
+reason-short : (why : Reason) → endingFor why ≡ Short → ⊥
+reason-short why e = short-not-over (reason-over why) (sym e)
 
-finished-short : Finished ≡ Short → ⊥
-finished-short e = let z : _≡_ {A = ℕ} 0 1 = cc in omega arith
-
-multiplied-told : (write : ℕ → Glyph → Glyph) (ids : List ℕ) (x : Run) → ends (multipliedBy write ids x) ≡ Short → ends x ≡ Short
-multiplied-told write ids x = by (isFull (size x) (length ids))
-  where
-    by : (b : Bool) → ends (cond b (endingAs Full x) (changed (replacedBy write ids) x)) ≡ Short → ends x ≡ Short
-    by true h = absurd (full-short h)
-    by false h = h
-
-when-told : (c : Run → Bool) (f : Run → Run) → ((x : Run) → ends (f x) ≡ Short → ends x ≡ Short) → (x : Run) → ends (when (c x) f x) ≡ Short → ends x ≡ Short
-when-told c f F x = by (c x)
-  where
-    by : (b : Bool) → ends (when b f x) ≡ Short → ends x ≡ Short
-    by true h = F x h
-    by false h = h
+made-told : (m : Made) (x : Run) → ends (madeIn m x) ≡ Short → ends x ≡ Short
+made-told (Into t) x h = h
+made-told (Stops why) x h = absurd (reason-short why h)
 
 chained-told : (g : Stage → Stage) (met : Stage → Type 0) → Told leftOf endOf g met → (m : Match) → Told left ends (chainedBy g m) (MetMatch met m)
 chained-told g met G (Matched ps e) = record { only = λ x. G .only (opened ps e x); so = λ x. G .so (opened ps e x) }
 chained-told g met G Unmatched = record { only = λ x h. inl h; so = λ x m. absurd m }
 
-module _ (rules : Rules) (chain : List Record → Stage → Stage) (met : List Record → Stage → Type 0) (C : (rs : List Record) → Told leftOf endOf (chain rs) (met rs)) where
-  applied-told : (found : Found) → Told left ends (appliedBy rules chain found) (MetLookup rules met found)
-  applied-told (Is (Kind1 props from to)) = record { only = λ x h. inl (when-told (isAt from) (changed (replacedBy (rules .write) (to ∷ []))) (λ y k. k) x h); so = λ x m. absurd m }
-  applied-told (Is (Kind2 props from ids)) = record { only = λ x h. inl (when-told (isAt from) (multipliedBy (rules .write) ids) (multiplied-told (rules .write) ids) x h); so = λ x m. absurd m }
-  applied-told (Is (Kind3 props first back input ahead rs)) = record {
-    only = λ x. chained-told (chain rs) (met rs) (C rs) (rules .match (Kind3 props first back input ahead rs) (x .text)) .only x;
-    so = λ x. chained-told (chain rs) (met rs) (C rs) (rules .match (Kind3 props first back input ahead rs) (x .text)) .so x;
+module _ (chain : List Record → Stage → Stage) (met : List Record → Stage → Type 0) (C : (rs : List Record) → Told leftOf endOf (chain rs) (met rs)) where
+  done-told : (deed : Deed) → Told left ends (doneBy chain deed) (MetDeed met deed)
+  done-told (Acts act) = record { only = λ x h. inl (made-told (act (x .text)) x h); so = λ x m. absurd m }
+  done-told (Chains match rs) = record {
+    only = λ x. chained-told (chain rs) (met rs) (C rs) (match (x .text)) .only x;
+    so = λ x. chained-told (chain rs) (met rs) (C rs) (match (x .text)) .so x;
   }
-  applied-told None = record { only = λ x h. inl h; so = λ x m. absurd m }
 
 module _ (f : ℕ → Act) (met : ℕ → Run → Type 0) (F : (k : ℕ) → Told left ends (f k .does) (met k)) where
   tried-only : (d l : ℕ) (r : Record) (v : Stage) → endOf (triedBy f d l r v) ≡ Short → (endOf v ≡ Short) ⊎ MetTry met d l r v
@@ -167,7 +140,7 @@ module _ (f : ℕ → Act) (met : ℕ → Run → Type 0) (F : (k : ℕ) → Tol
 
 closing-told : (g : Stage → Stage) (met : Stage → Type 0) → Told leftOf endOf g met → Told leftOf endOf (λ v. closed (g v)) met
 unfolding closed
-closing-told g met G = record { only = λ v h. G .only v (by v (not (isOver (g v .run .ending))) h); so = λ v m. closed-stays (g v) (G .so v m) }
+closing-told g met G = record { only = λ v h. G .only v (by v (not (isOver (g v .run .tally .ending))) h); so = λ v m. closed-stays (g v) (G .so v m) }
   where
     by : (v : Stage) (b : Bool) → ends (when b (changed (movedTo (g v .level .end))) (g v .run)) ≡ Short → endOf (g v) ≡ Short
     by v true h = h
@@ -178,5 +151,5 @@ unfolding chainRun Met
 chain-told rules book zero rs =
     closing-told _ _ (records-told (acting (mending rules book) (λ k x. x)) (λ k x. ⊥) (λ k. record { only = λ x h. inl h; so = λ x m. absurd m }) zero rs)
 chain-told rules book (suc d) rs =
-    closing-told _ _ (records-told (acting (mending rules book) (lookupRun rules book d)) (λ k. MetLookup rules (Met rules book d) (lookupAt k book))
-    (λ k. applied-told rules (chainRun rules book d) (Met rules book d) (chain-told rules book d) (lookupAt k book)) (suc d) rs)
+    closing-told _ _ (records-told (acting (mending rules book) (lookupRun rules book d)) (λ k. MetDeed (Met rules book d) (deedAt rules book k))
+    (λ k. done-told (chainRun rules book d) (Met rules book d) (chain-told rules book d) (deedAt rules book k)) (suc d) rs)

@@ -1,18 +1,21 @@
 -- The code's side: a run as the code keeps it: two rows, a state and a level in slots. What each step of the code makes of them, as a run over a text.
 use mathlib.Core.Path.{_≡_}
 use mathlib.Core.Bool.{Bool, true, false, cond, not, _&&_}
-use mathlib.Core.List.{List, [], _∷_}
+use mathlib.Core.List.{List}
 use Prim.Native.Nat.{ℕ, zero, suc, _+_, _≤_}
 use lib.Dec.{ltb}
 use lib.ListN.{length, getD}
-use Rattle.text.specs.Text.{textOf, movedTo, replaced, Fits}
+use Rattle.text.specs.declared.Place.{Place}
+use Rattle.text.specs.Text.{textOf, movedTo, written, Fits}
 use Rattle.book.specs.declared.Entry.{Entry}
 use Rattle.book.specs.Book.{Record}
 use Rattle.book.specs.Places.{partOf}
 use Rattle.runs.specs.declared.Ending.{Ending}
 use Rattle.runs.specs.declared.Ending.the-variants.{Short, Deep}
 use Rattle.runs.specs.Repair.{Level, Sound}
-use Rattle.runs.specs.Run.{Run, Stage, isOver, changed, when, isAt, multiplied, isDue, arrived, stopped, spending, mostAllowance}
+use Rattle.runs.specs.declared.Tally.{Tally}
+use Rattle.runs.specs.Run.{Run, Stage, madeIn, isOver, fresh, changed, ended, spentOne, inRun, when, isDue, arrived, stopped, spending, mostAllowance}
+use Rattle.runs.specs.Deeds.{onId, renamedBy, multipliedBy}
 use Rattle.levels.specs.declared.Slots.{Slots}
 use Rattle.levels.specs.Slots.{levelOf, shown, Neat}
 use Rattle.steps.specs.declared.State.{State}
@@ -20,7 +23,7 @@ use Rattle.steps.specs.declared.Ready.{Ready}
 
 -- the run that two rows and a state hold
 abbrev pub runOf : List ℕ → List ℕ → State → Run
-runOf done coming s = record { text = textOf done coming (s .place); left = s .left; tries = s .spent; ending = s .ending }
+runOf done coming s = record { text = textOf done coming (s .place); tally = s .tally }
 
 abbrev pub stageOf : List ℕ → List ℕ → State → Slots → Stage
 stageOf done coming s lv = record { level = levelOf lv; run = runOf done coming s }
@@ -37,8 +40,18 @@ abbrev pub isDueAt : Level → Ending → ℕ → ℕ → Bool
 isDueAt lv e size seq =
     lv .live && (not (isOver e) && (ltb seq (length (lv .positions)) && ltb (getD (lv .positions) seq 0) size))
 
+-- states are made by these
+abbrev pub begunAt : Place → ℕ → State
+begunAt place allowance = record { place = place; tally = fresh allowance }
+
+abbrev pub partedAt : Place → State → State
+partedAt place s = record { place = place; tally = s .tally }
+
+abbrev pub talliedAs : Tally → State → State
+talliedAs y s = record { place = s .place; tally = y }
+
 abbrev pub endedAs : Ending → State → State
-endedAs e s = record { place = s .place; left = s .left; spent = s .spent; ending = e }
+endedAs e s = talliedAs (ended e (s .tally)) s
 
 abbrev pub stoppedSlots : Slots → Slots
 stoppedSlots lv = record { live = false; end = lv .end; count = lv .count; at = lv .at }
@@ -51,7 +64,7 @@ unfoldable pub judgedAt : ℕ → ℕ → State → Slots → Ready
 judgedAt depth zero s lv = stoppedAs Short s lv
 judgedAt zero (suc left) s lv = stoppedAs Deep s lv
 judgedAt (suc depth) (suc left) s lv =
-    record { go = true; state = record { place = s .place; left = left; spent = s .spent + 1; ending = s .ending }; level = lv }
+    record { go = true; state = talliedAs (spentOne left (s .tally)) s; level = lv }
 
 -- the same on a stage: whether the record's lookup is tried, and on what
 pub record Judgement : Type 0 where
@@ -61,10 +74,10 @@ pub record Judgement : Type 0 where
 unfoldable pub judged : ℕ → ℕ → Stage → Judgement
 judged depth zero v = record { go = false; stage = stopped Short v }
 judged zero (suc left) v = record { go = false; stage = stopped Deep v }
-judged (suc depth) (suc left) v = record { go = true; stage = record { level = v .level; run = spending left (v .run) } }
+judged (suc depth) (suc left) v = record { go = true; stage = inRun (spending left) v }
 
 abbrev pub readied : ℕ → Record → Stage → Judgement
-readied depth r v = cond (isDue r v) (judged depth (v .run .left) (arrived r v)) (record { go = false; stage = v })
+readied depth r v = cond (isDue r v) (judged depth (v .run .tally .left) (arrived r v)) (record { go = false; stage = v })
 
 pub record Prepared (j : Judgement) (done coming : List ℕ) (r : Ready) : Type 0 where
   pub go : r .go ≡ j .go
@@ -74,21 +87,21 @@ pub record Prepared (j : Judgement) (done coming : List ℕ) (r : Ready) : Type 
 -- ---- a level's end
 
 unfoldable pub closedAt : ℕ → Run → Run
-closedAt end x = when (not (isOver (x .ending))) (changed (movedTo end)) x
+closedAt end x = when (not (isOver (x .tally .ending))) (changed (movedTo end)) x
 
 -- ---- a lookup
 
 abbrev pub oneOn : ℕ → ℕ → Run → Run
-oneOn from to x = when (isAt from x) (changed (replaced (to ∷ []))) x
+oneOn from to x = madeIn (onId from (renamedBy written to) (x .text)) x
 
 abbrev pub manyOn : ℕ → List ℕ → Run → Run
-manyOn from ids x = when (isAt from x) (multiplied ids) x
+manyOn from ids x = madeIn (onId from (multipliedBy written ids) (x .text)) x
 
 -- kinds 1 and 2
 abbrev pub actedBy : List ℕ → Entry → Run → Run
 actedBy ws (Entry.One props from to) x = oneOn from to x
 actedBy ws (Entry.Many props from ids) x = manyOn from (partOf ws ids) x
-actedBy ws (Entry.Chain props first back input onward records) x = x
+actedBy ws (Entry.Chain props parts) x = x
 actedBy ws Entry.Missing x = x
 
 -- ---- what a level's steps may count on
@@ -100,6 +113,6 @@ at seq = record { seq = seq; lookup = 0 }
 -- rows that hold a text, a level that is sound over it, and no more left and spent than an allowance
 pub record Able (done coming : List ℕ) (s : State) (lv : Slots) : Type 0 where
   pub fits : Fits done coming (s .place)
-  pub few : s .left + s .spent ≤ mostAllowance
+  pub few : s .tally .left + s .tally .spent ≤ mostAllowance
   pub neat : Neat lv
   pub sound : Sound 0 (length (textOf done coming (s .place) .glyphs)) (levelOf lv)

@@ -18,13 +18,14 @@ use Rattle.runs.specs.declared.Ending.{Ending}
 use Rattle.runs.specs.declared.Ending.the-variants.{Short, Deep, Full}
 use Rattle.runs.specs.Repair.{Sound}
 use Rattle.runs.specs.Kept.{due-shows}
-use Rattle.runs.specs.Run.{Stage, isOver, size, isAt, isDue, arrived, placeOf}
+use Rattle.runs.specs.Run.{Stage, spentOne, isOver, size, changed, endingAs, spending, isDue, arrived, placeOf}
+use Rattle.runs.specs.Deeds.{isAt}
 use Rattle.levels.specs.declared.Slots.{Slots}
 use Rattle.levels.specs.Slots.{levelOf, Neat}
 use Rattle.levels.specs.Laws.{count-is}
 use Rattle.steps.specs.declared.State.{State}
 use Rattle.steps.specs.declared.Ready.{Ready}
-use Rattle.steps.specs.State.{runOf, stageOf, Ran, Able, at, isDueAt, endedAs, stoppedSlots, judgedAt, judged, readied, Prepared, closedAt, oneOn, manyOn}
+use Rattle.steps.specs.State.{runOf, stageOf, Ran, Able, at, isDueAt, partedAt, talliedAs, endedAs, stoppedSlots, judgedAt, judged, readied, Prepared, closedAt, oneOn, manyOn}
 
 -- ids of a lookup, and slots, are fewer than a row's glyphs
 pub limit-most : 64 ≤ limit
@@ -60,27 +61,27 @@ module _ (depth : ℕ) (s : State) (lv : Slots) where
   unfolding judgedAt
   judge-zero l e = rw e
 
-  pub judge-short : s .left ≡ 0 → _≡_ {A = Ready} (record { go = false; state = endedAs Short s; level = stoppedSlots lv }) (judgedAt depth (s .left) s lv)
-  judge-short e = judge-zero (s .left) e
+  pub judge-short : s .tally .left ≡ 0 → _≡_ {A = Ready} (record { go = false; state = endedAs Short s; level = stoppedSlots lv }) (judgedAt depth (s .tally .left) s lv)
+  judge-short e = judge-zero (s .tally .left) e
 
   judge-none : (l d : ℕ) → (l ≡ 0 → ⊥) → d ≡ 0 → _≡_ {A = Ready} (record { go = false; state = endedAs Deep s; level = stoppedSlots lv }) (judgedAt d l s lv)
   unfolding judgedAt
   judge-none zero d n e = absurd (n refl)
   judge-none (suc l) d n e = rw e
 
-  pub judge-deep : (s .left ≡ 0 → ⊥) → depth ≡ 0 → _≡_ {A = Ready} (record { go = false; state = endedAs Deep s; level = stoppedSlots lv }) (judgedAt depth (s .left) s lv)
-  judge-deep n e = judge-none (s .left) depth n e
+  pub judge-deep : (s .tally .left ≡ 0 → ⊥) → depth ≡ 0 → _≡_ {A = Ready} (record { go = false; state = endedAs Deep s; level = stoppedSlots lv }) (judgedAt depth (s .tally .left) s lv)
+  judge-deep n e = judge-none (s .tally .left) depth n e
 
   judge-some : (l d : ℕ) → (l ≡ 0 → ⊥) → (d ≡ 0 → ⊥)
-      → _≡_ {A = Ready} (record { go = true; state = record { place = s .place; left = l - 1; spent = s .spent + 1; ending = s .ending }; level = lv }) (judgedAt d l s lv)
+      → _≡_ {A = Ready} (record { go = true; state = talliedAs (spentOne (l - 1) (s .tally)) s; level = lv }) (judgedAt d l s lv)
   unfolding judgedAt
   judge-some zero d n m = absurd (n refl)
   judge-some (suc l) zero n m = absurd (m refl)
   judge-some (suc l) (suc d) n m = let e : suc l - 1 ≡ l = omega arith in rw e
 
-  pub judge-spend : (s .left ≡ 0 → ⊥) → (depth ≡ 0 → ⊥)
-      → _≡_ {A = Ready} (record { go = true; state = record { place = s .place; left = s .left - 1; spent = s .spent + 1; ending = s .ending }; level = lv }) (judgedAt depth (s .left) s lv)
-  judge-spend n m = judge-some (s .left) depth n m
+  pub judge-spend : (s .tally .left ≡ 0 → ⊥) → (depth ≡ 0 → ⊥)
+      → _≡_ {A = Ready} (record { go = true; state = talliedAs (spentOne (s .tally .left - 1) (s .tally)) s; level = lv }) (judgedAt depth (s .tally .left) s lv)
+  judge-spend n m = judge-some (s .tally .left) depth n m
 
 -- ---- a record before its lookup is tried
 
@@ -88,11 +89,11 @@ module _ (done coming : List ℕ) (s : State) (lv : Slots) (seq : ℕ) where
   abbrev here : Stage
   here = stageOf done coming s lv
 
-  pub due-is : Fits done coming (s .place) → isDue (at seq) (stageOf done coming s lv) ≡ isDueAt (levelOf lv) (s .ending) (sizeOf (s .place)) seq
-  due-is f = ap (λ (n : ℕ). isDueAt (levelOf lv) (s .ending) n seq) (size-is f)
+  pub due-is : Fits done coming (s .place) → isDue (at seq) (stageOf done coming s lv) ≡ isDueAt (levelOf lv) (s .tally .ending) (sizeOf (s .place)) seq
+  due-is f = ap (λ (n : ℕ). isDueAt (levelOf lv) (s .tally .ending) n seq) (size-is f)
 
   -- what the code counts on where a record is due
-  pub due-shown : Able done coming s lv → isDueAt (levelOf lv) (s .ending) (sizeOf (s .place)) seq ≡ true
+  pub due-shown : Able done coming s lv → isDueAt (levelOf lv) (s .tally .ending) (sizeOf (s .place)) seq ≡ true
       → (seq < lv .count) × (getD (lv .at) seq 0 < length (textOf done coming (s .place) .glyphs)) × (getD (lv .at) seq 0 ≡ getD (take (lv .count) (lv .at)) seq 0)
   due-shown a e =
       let u = due-shows (at seq) (stageOf done coming s lv) (due-is (a .fits) ∙ e) in
@@ -101,7 +102,7 @@ module _ (done coming : List ℕ) (s : State) (lv : Slots) (seq : ℕ) where
       let q : getD (lv .at) seq 0 ≡ getD (take (lv .count) (lv .at)) seq 0 = sym (getD-take (lv .count) (lv .at) seq 0 i) in
       (i, omega (arith, u .inside), q)
 
-  pub prepared-none : (depth : ℕ) → Able done coming s lv → isDueAt (levelOf lv) (s .ending) (sizeOf (s .place)) seq ≡ false
+  pub prepared-none : (depth : ℕ) → Able done coming s lv → isDueAt (levelOf lv) (s .tally .ending) (sizeOf (s .place)) seq ≡ false
       → Prepared (readied depth (at seq) (stageOf done coming s lv)) done coming (record { go = false; state = s; level = lv })
   prepared-none depth a e =
       let q : isDue (at seq) (stageOf done coming s lv) ≡ false = due-is (a .fits) ∙ e in
@@ -110,52 +111,52 @@ module _ (done coming : List ℕ) (s : State) (lv : Slots) (seq : ℕ) where
   -- after the move
   module _ (done′ coming′ : List ℕ) (place : Place) where
     abbrev moved : State
-    moved = record { place = place; left = s .left; spent = s .spent; ending = s .ending }
+    moved = partedAt place s
 
-    judged-so : (depth l : ℕ) → s .left ≡ l → Neat lv → Holds done′ coming′ place (movedTo (placeOf (at seq) here) (textOf done coming (s .place)))
+    judged-so : (depth l : ℕ) → s .tally .left ≡ l → Neat lv → Holds done′ coming′ place (movedTo (placeOf (at seq) here) (textOf done coming (s .place)))
         → Prepared (judged depth l (arrived (at seq) here)) done′ coming′ (judgedAt depth l moved lv)
     unfolding judged judgedAt
     judged-so depth zero e neat h = record {
       go = refl;
       level = λ j. record { live = false; end = lv .end; count = sym neat j .count; at = sym neat j .at };
-      ran = record { fits = h .fits; is = λ j. record { text = h .text j; left = s .left; tries = s .spent; ending = Short } };
+      ran = record { fits = h .fits; is = λ j. endingAs Short (changed (λ t. h .text j) (runOf done coming s)) };
     }
     judged-so zero (suc l) e neat h = record {
       go = refl;
       level = λ j. record { live = false; end = lv .end; count = sym neat j .count; at = sym neat j .at };
-      ran = record { fits = h .fits; is = λ j. record { text = h .text j; left = s .left; tries = s .spent; ending = Deep } };
+      ran = record { fits = h .fits; is = λ j. endingAs Deep (changed (λ t. h .text j) (runOf done coming s)) };
     }
     judged-so (suc depth) (suc l) e neat h = record {
       go = refl;
       level = sym neat;
-      ran = record { fits = h .fits; is = λ j. record { text = h .text j; left = l; tries = s .spent + 1; ending = s .ending } };
+      ran = record { fits = h .fits; is = λ j. spending l (changed (λ t. h .text j) (runOf done coming s)) };
     }
 
-    pub prepared-due : (depth p : ℕ) (r : Ready) → Able done coming s lv → isDueAt (levelOf lv) (s .ending) (sizeOf (s .place)) seq ≡ true
-        → p ≡ getD (take (lv .count) (lv .at)) seq 0 → Holds done′ coming′ place (movedTo p (textOf done coming (s .place))) → r ≡ judgedAt depth (s .left) moved lv
+    pub prepared-due : (depth p : ℕ) (r : Ready) → Able done coming s lv → isDueAt (levelOf lv) (s .tally .ending) (sizeOf (s .place)) seq ≡ true
+        → p ≡ getD (take (lv .count) (lv .at)) seq 0 → Holds done′ coming′ place (movedTo p (textOf done coming (s .place))) → r ≡ judgedAt depth (s .tally .left) moved lv
         → Prepared (readied depth (at seq) (stageOf done coming s lv)) done′ coming′ r
     prepared-due depth p r a e q h j =
         let d : isDue (at seq) (stageOf done coming s lv) ≡ true = due-is (a .fits) ∙ e in
-        rw (d, j) (judged-so depth (s .left) refl (a .neat) (rw q at h))
+        rw (d, j) (judged-so depth (s .tally .left) refl (a .neat) (rw q at h))
 
 -- ---- a level's end
 
 module _ (done coming : List ℕ) (s : State) (f : Fits done coming (s .place)) (end : ℕ) where
-  pub closed-over : isOver (s .ending) ≡ true → Ran done coming s (closedAt end (runOf done coming s))
+  pub closed-over : isOver (s .tally .ending) ≡ true → Ran done coming s (closedAt end (runOf done coming s))
   unfolding closedAt
   closed-over o = rw o (record { fits = f; is = refl })
 
-  pub closed-moves : (done′ coming′ : List ℕ) (place : Place) → isOver (s .ending) ≡ false → Holds done′ coming′ place (movedTo end (textOf done coming (s .place)))
-      → Ran done′ coming′ (record { place = place; left = s .left; spent = s .spent; ending = s .ending }) (closedAt end (runOf done coming s))
+  pub closed-moves : (done′ coming′ : List ℕ) (place : Place) → isOver (s .tally .ending) ≡ false → Holds done′ coming′ place (movedTo end (textOf done coming (s .place)))
+      → Ran done′ coming′ (partedAt place s) (closedAt end (runOf done coming s))
   unfolding closedAt
   closed-moves done′ coming′ place o h =
-      rw o (record { fits = h .fits; is = λ j. record { text = h .text j; left = s .left; tries = s .spent; ending = s .ending } })
+      rw o (record { fits = h .fits; is = λ j. changed (λ t. h .text j) (runOf done coming s) })
 
 -- ---- kinds 1 and 2
 
 module _ (done coming : List ℕ) (s : State) (f : Fits done coming (s .place)) (g : Glyph) (is : g ≡ getD (glyphsOf coming) (s .place .idx) blank) (from : ℕ) where
   -- the glyph that was read is the cursor's
-  cursor-is : isAt from (runOf done coming s) ≡ eqb (g .id) from
+  cursor-is : isAt from (textOf done coming (s .place)) ≡ eqb (g .id) from
   cursor-is = ap (λ (x : Glyph). eqb (x .id) from) (at-cursor f ∙ sym is)
 
   pub inside : s .place .idx < limit → s .place .d < length (textOf done coming (s .place) .glyphs)
@@ -168,9 +169,9 @@ module _ (done coming : List ℕ) (s : State) (f : Fits done coming (s .place)) 
   one-off to n = rw (cursor-is, ne-eqb (g .id) from n) same
 
   pub one-on : (to : ℕ) (done′ : List ℕ) (place : Place) → g .id ≡ from → Holds done′ coming place (replaced (to ∷ []) (textOf done coming (s .place)))
-      → Ran done′ coming (record { place = place; left = s .left; spent = s .spent; ending = s .ending }) (oneOn from to (runOf done coming s))
+      → Ran done′ coming (partedAt place s) (oneOn from to (runOf done coming s))
   one-on to done′ place e h =
-      rw (cursor-is, eq-eqb (g .id) from e) (record { fits = h .fits; is = λ j. record { text = h .text j; left = s .left; tries = s .spent; ending = s .ending } })
+      rw (cursor-is, eq-eqb (g .id) from e) (record { fits = h .fits; is = λ j. changed (λ t. h .text j) (runOf done coming s) })
 
   module _ (ids : List ℕ) where
     pub many-off : (g .id ≡ from → ⊥) → Ran done coming s (manyOn from ids (runOf done coming s))
@@ -184,7 +185,7 @@ module _ (done coming : List ℕ) (s : State) (f : Fits done coming (s .place)) 
 
     pub many-on : (done′ : List ℕ) (place : Place) → g .id ≡ from → isFull (sizeOf (s .place)) (length ids) ≡ false
         → Holds done′ coming place (replaced ids (textOf done coming (s .place)))
-        → Ran done′ coming (record { place = place; left = s .left; spent = s .spent; ending = s .ending }) (manyOn from ids (runOf done coming s))
+        → Ran done′ coming (partedAt place s) (manyOn from ids (runOf done coming s))
     many-on done′ place e o h =
         rw (cursor-is, eq-eqb (g .id) from e, full-is, o)
-        (record { fits = h .fits; is = λ j. record { text = h .text j; left = s .left; tries = s .spent; ending = s .ending } })
+        (record { fits = h .fits; is = λ j. changed (λ t. h .text j) (runOf done coming s) })

@@ -2,6 +2,7 @@
 use book::Entry;
 use levels::Slots;
 use runs::Ending;
+use runs::Tally;
 use text::Place;
 ghost use mathlib.Core.Path.{_≡_};
 ghost use Prim.Native.Nat.{_+_, _≤_, _<_};
@@ -10,15 +11,13 @@ ghost use Rattle.glyph.specs.Glyph.{limit};
 ghost use Rattle.text.specs.Text.{textOf, sizeOf, Fits};
 ghost use Rattle.book.specs.Inside.{Good};
 ghost use Rattle.levels.specs.Slots.{levelOf, Neat};
-ghost use Rattle.steps.specs.State.{runOf, stageOf, Ran, Able, at, isDueAt, stoppedAs, judgedAt, readied, Prepared, closedAt, oneOn, manyOn, actedBy};
+ghost use Rattle.steps.specs.State.{runOf, stageOf, Ran, Able, at, isDueAt, begunAt, partedAt, talliedAs, endedAs, stoppedAs, judgedAt, readied, Prepared, closedAt, oneOn, manyOn, actedBy};
 ghost use Rattle.runs.specs.Run.{mostAllowance};
 
-// A run under way: where the text is parted, the allowance that is left, the lookups tried so far, and how it would end now.
+// A run under way: where the text is parted, and how the run stands. States are made by `begin`, `parted`, `tallied` and `ended`.
 pub struct State {
     pub place: Place,
-    pub left: u32,
-    pub spent: u32,
-    pub ending: Ending,
+    pub tally: Tally,
 }
 
 // A record before its lookup is tried: whether it is, and what the run and the level are then.
@@ -31,13 +30,14 @@ pub struct Ready {
 // Whether a record is due: its level goes on in a run that isn't over, its sequence index is below the count, its position is in the text.
 fn is_due(s: State, lv: Slots, seq: usize) -> bool
     requires { ⌜ Neat lv × (lv .count ≤ 64) × (s .place .idx ≤ limit) × (s .place .d ≤ s .place .idx) ⌝ }
-    ensures { λ r. ⌜ r ≡ isDueAt (levelOf lv) (s .ending) (sizeOf (s .place)) seq ⌝ }
+    ensures { λ r. ⌜ r ≡ isDueAt (levelOf lv) (s .tally .ending) (sizeOf (s .place)) seq ⌝ }
 {
     let live = lv.live;
     if !live {
         return false;
     }
-    let e = s.ending;
+    let tally = s.tally;
+    let e = tally.ending;
     if runs::is_over(e) {
         return false;
     }
@@ -51,28 +51,52 @@ fn is_due(s: State, lv: Slots, seq: usize) -> bool
     p < text::size(place)
 }
 
+// A run that begins.
+pub fn begin(place: Place, allowance: u32) -> State
+    ensures { λ r. ⌜ r ≡ begunAt place allowance ⌝ }
+{
+    let tally = runs::fresh(allowance);
+    State { place, tally }
+}
+
+// The run with its text parted elsewhere.
+fn parted(s: State, place: Place) -> State
+    ensures { λ r. ⌜ r ≡ partedAt place s ⌝ }
+{
+    let tally = s.tally;
+    State { place, tally }
+}
+
+// The run with another tally.
+fn tallied(s: State, tally: Tally) -> State
+    ensures { λ r. ⌜ r ≡ talliedAs tally s ⌝ }
+{
+    let place = s.place;
+    State { place, tally }
+}
+
+fn ended(s: State, ending: Ending) -> State
+    ensures { λ r. ⌜ r ≡ endedAs ending s ⌝ }
+{
+    let tally = s.tally;
+    tallied(s, runs::ended(tally, ending))
+}
+
 // A due record, reached: allowance 0 is Short, depth 0 is Deep, else one is spent.
 fn judge(s: State, lv: Slots, depth: usize) -> Ready
-    requires { ⌜ s .left + s .spent ≤ mostAllowance ⌝ }
-    ensures { λ r. ⌜ r ≡ judgedAt depth (s .left) s lv ⌝ }
+    requires { ⌜ s .tally .left + s .tally .spent ≤ mostAllowance ⌝ }
+    ensures { λ r. ⌜ r ≡ judgedAt depth (s .tally .left) s lv ⌝ }
 {
-    let left = s.left;
-    if left == 0 {
+    let tally = s.tally;
+    if tally.left == 0 {
         return stop(s, lv, Ending::Short);
     }
     if depth == 0 {
         return stop(s, lv, Ending::Deep);
     }
-    let place = s.place;
-    let ending = s.ending;
     Ready {
         go: true,
-        state: State {
-            place,
-            left: left - 1,
-            spent: s.spent + 1,
-            ending,
-        },
+        state: tallied(s, runs::spend(tally)),
         level: lv,
     }
 }
@@ -81,17 +105,10 @@ fn judge(s: State, lv: Slots, depth: usize) -> Ready
 fn stop(s: State, lv: Slots, ending: Ending) -> Ready
     ensures { λ r. ⌜ r ≡ stoppedAs ending s lv ⌝ }
 {
-    let place = s.place;
-    let spent = s.spent;
     let at = lv.at;
     Ready {
         go: false,
-        state: State {
-            place,
-            left: s.left,
-            spent,
-            ending,
-        },
+        state: ended(s, ending),
         level: Slots {
             live: false,
             end: lv.end,
@@ -124,17 +141,7 @@ pub fn prepare(
     let p = slots[seq] as usize;
     let here = s.place;
     let place = text::move_to(done, coming, here, p);
-    let ending = s.ending;
-    judge(
-        State {
-            place,
-            left: s.left,
-            spent: s.spent,
-            ending,
-        },
-        lv,
-        depth,
-    )
+    judge(parted(s, place), lv, depth)
 }
 
 // A level ends by moving to its end, except after Deep or Full.
@@ -142,18 +149,14 @@ pub fn finish(done: &mut [u32], coming: &mut [u32], s: State, end: usize) -> Sta
     requires { ⌜ Fits (now done) (now coming) (s .place) × (end ≤ length (textOf (now done) (now coming) (s .place) .glyphs)) ⌝ }
     ensures { λ r. ⌜ Ran (now (done .exit)) (now (coming .exit)) r (closedAt end (runOf (now (done .entry)) (now (coming .entry)) s)) ⌝ }
 {
-    let ending = s.ending;
+    let tally = s.tally;
+    let ending = tally.ending;
     if runs::is_over(ending) {
         return s;
     }
     let here = s.place;
     let place = text::move_to(done, coming, here, end);
-    State {
-        place,
-        left: s.left,
-        spent: s.spent,
-        ending,
-    }
+    parted(s, place)
 }
 
 // Kind 1 at the cursor.
@@ -167,13 +170,7 @@ fn act_one(done: &mut [u32], coming: &[u32], s: State, from: u32, to: u32) -> St
         return s;
     }
     let place = text::replace_one(done, coming, here, to);
-    let ending = s.ending;
-    State {
-        place,
-        left: s.left,
-        spent: s.spent,
-        ending,
-    }
+    parted(s, place)
 }
 
 // Kind 2 at the cursor. A result that would pass the limit writes nothing, and the run is Full.
@@ -187,27 +184,16 @@ fn act_many(done: &mut [u32], coming: &[u32], s: State, from: u32, ids: &[u16]) 
         return s;
     }
     if text::is_full(here, ids.len()) {
-        return State {
-            place: here,
-            left: s.left,
-            spent: s.spent,
-            ending: Ending::Full,
-        };
+        return ended(s, Ending::Full);
     }
     let place = text::replace_many(done, coming, here, ids);
-    let ending = s.ending;
-    State {
-        place,
-        left: s.left,
-        spent: s.spent,
-        ending,
-    }
+    parted(s, place)
 }
 
-// Kinds 1 and 2; any other entry does nothing here.
-pub fn act(done: &mut [u32], coming: &[u32], book: &[u16], e: Entry, s: State) -> State
+// Kinds 1 and 2; any other entry does nothing here. `coming` is lent to write to, for lookups that change more than the cursor glyph.
+pub fn act(done: &mut [u32], coming: &mut [u32], book: &[u16], e: Entry, s: State) -> State
     requires { ⌜ Fits (now done) (now coming) (s .place) × (s .place .idx < limit) × Good (length (now book)) e ⌝ }
-    ensures { λ r. ⌜ Ran (now (done .exit)) (now (coming .entry)) r (actedBy (now (book .entry)) e (runOf (now (done .entry)) (now (coming .entry)) s)) ⌝ }
+    ensures { λ r. ⌜ Ran (now (done .exit)) (now (coming .exit)) r (actedBy (now (book .entry)) e (runOf (now (done .entry)) (now (coming .entry)) s)) ⌝ }
 {
     match e {
         Entry::One { props: _, from, to } => act_one(done, coming, s, from, to),
@@ -220,14 +206,7 @@ pub fn act(done: &mut [u32], coming: &[u32], book: &[u16], e: Entry, s: State) -
             let z = ids.to;
             act_many(done, coming, s, from, &book[a..z])
         }
-        Entry::Chain {
-            props: _,
-            first: _,
-            backtrack: _,
-            input: _,
-            lookahead: _,
-            records: _,
-        } => s,
+        Entry::Chain { props: _, parts: _ } => s,
         Entry::Missing => s,
     }
 }

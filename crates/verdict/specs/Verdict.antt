@@ -1,7 +1,7 @@
 -- Whether a glyph may be skipped, whether it may match, and the verdict on it (01, port order 3).
 use Prim.Native.Nat.{ℕ, _/_, _%_}
 use mathlib.Core.List.{List}
-use mathlib.Core.Bool.{Bool, not, cond, _&&_, _||_}
+use mathlib.Core.Bool.{Bool, true, false, not, cond, _&&_, _||_}
 use lib.Dec.{eqb}
 use lib.Bits.{bitAnd}
 use lib.ListN.{getD}
@@ -95,6 +95,11 @@ valueBy Nothing lists value g = MayMatch.Maybe
 
 abbrev pub valueOf : Sign → List ℕ → Asked
 valueOf sign lists = valueBy (sign .test) lists (sign .value)
+
+abbrev pub isYes : MayMatch → Bool
+isYes MayMatch.Yes = true
+isYes MayMatch.No = false
+isYes MayMatch.Maybe = false
 
 unfoldable pub matchOf : Matcher → Asked → ℕ → Glyph → MayMatch
 matchOf m sign syllable g = cond (ruledOut m syllable g) MayMatch.No (sign g)

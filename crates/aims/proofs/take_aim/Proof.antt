@@ -1,11 +1,14 @@
 -- An entry's parts are in the book, and its chain is the definition's. Assumes nothing.
-use Prim.Native.Nat.{_*_}
-use mathlib.Core.Path.{_∙_}
+use Prim.Native.Nat.{_*_, _^_, _<_}
+use mathlib.Core.Path.{ap, _∙_}
 use native.Mathlib.Omega.{arith}
 use lib.ListN.{length, length-take, length-drop}
 use Rattle.text.specs.Text.{textOf}
-use Rattle.book.specs.Book.{mostSide, mostInput, mostRecords}
-use Rattle.book.specs.Inside.{Inside}
+use Rattle.book.specs.Inside.{GoodChain}
+use Rattle.book.specs.Places.{partOf}
+use Rattle.runs.specs.Chain.{chainAt}
+use Rattle.aims.specs.declared.Tests.{Tests}
+use Rattle.aims.specs.Aim.{aimAt, handedChain}
 use Rattle.aims.specs.Laws.{aim-chain}
 use borrow.Author.Needs.{needs}
 use Rattle.aims.proofs.take_aim.Statement.{statement}
@@ -17,50 +20,64 @@ enum-known-e c = search needs
 ask-requires : tie.Need-ask-requires
 ask-requires c κs = search needs
 
+by-id-requires : tie.Need-by-id-requires
+by-id-requires c κs = search needs
+
+-- a slice of the book's words is no larger than memory
+few : (s : tie.Start) → length (s .args .book .now) * 2 < 2 ^ 64
+few s = omega arith
+
 -- the parts of the entry
-module _ (c : tie.After-ask) where
-  parts : let n = length (c .before .before .before .before .before .before .before .before .args .book .now) in let e = c .before .before .e .given .0 in
-      Inside n mostSide (e .1 .1 .0) × Inside n mostInput (e .1 .1 .1 .0) × Inside n mostSide (e .1 .1 .1 .1 .0) × Inside n (2 * mostRecords) (e .1 .1 .1 .1 .1 .0)
-  parts = rw (c .before .before .e .given .1) at (c .before .before .before .before .before .before .before .before .pre .2)
+module _ (c : tie.After-by-id) where
+  inside : GoodChain (length (c .before .before .before .before .before .before .before .before .before .before .before .before .before .args .book .now)) (c .before .before .before .before .before .before .before .e .given .0 .1 .0)
+  inside = rw (c .before .before .before .before .before .before .before .e .given .1) at (c .before .before .before .before .before .before .before .before .before .before .before .before .before .pre .2)
 
 mul-match-chain : tie.Need-mul-match-chain
-mul-match-chain c = omega (arith, parts c .0 .ordered, parts c .0 .within)
+mul-match-chain c = omega (arith, few (c .before .before .before .before .before .before .before .before .before .before .before .before .before), inside c .backtrack .ordered, inside c .backtrack .within)
 
 sub-match-chain : tie.Need-sub-match-chain
-sub-match-chain c = parts c .0 .ordered
+sub-match-chain c = inside c .backtrack .ordered
 
 part-match-chain-start : tie.Need-part-match-chain-start
-part-match-chain-start c = omega (arith, parts c .0 .ordered, parts c .0 .within)
+part-match-chain-start c = omega (arith, inside c .backtrack .ordered, inside c .backtrack .within)
 
 part-match-chain-end : tie.Need-part-match-chain-end
-part-match-chain-end c = omega (arith, parts c .0 .ordered, parts c .0 .within)
+part-match-chain-end c = omega (arith, inside c .backtrack .ordered, inside c .backtrack .within)
 
 mul-match-chain-2 : tie.Need-mul-match-chain-2
-mul-match-chain-2 c = omega (arith, parts (c .before) .1 .ordered, parts (c .before) .1 .within)
+mul-match-chain-2 c = omega (arith, few (c .before .before .before .before .before .before .before .before .before .before .before .before .before .before), inside (c .before) .input .ordered, inside (c .before) .input .within)
 
 sub-match-chain-2 : tie.Need-sub-match-chain-2
-sub-match-chain-2 c = parts (c .before) .1 .ordered
+sub-match-chain-2 c = inside (c .before) .input .ordered
 
 part-match-chain-start-2 : tie.Need-part-match-chain-start-2
-part-match-chain-start-2 c = omega (arith, parts (c .before) .1 .ordered, parts (c .before) .1 .within)
+part-match-chain-start-2 c = omega (arith, inside (c .before) .input .ordered, inside (c .before) .input .within)
 
 part-match-chain-end-2 : tie.Need-part-match-chain-end-2
-part-match-chain-end-2 c = omega (arith, parts (c .before) .1 .ordered, parts (c .before) .1 .within)
+part-match-chain-end-2 c = omega (arith, inside (c .before) .input .ordered, inside (c .before) .input .within)
 
 mul-match-chain-3 : tie.Need-mul-match-chain-3
-mul-match-chain-3 c = omega (arith, parts (c .before .before) .2 .ordered, parts (c .before .before) .2 .within)
+mul-match-chain-3 c = omega (arith, few (c .before .before .before .before .before .before .before .before .before .before .before .before .before .before .before), inside (c .before .before) .lookahead .ordered, inside (c .before .before) .lookahead .within)
 
 sub-match-chain-3 : tie.Need-sub-match-chain-3
-sub-match-chain-3 c = parts (c .before .before) .2 .ordered
+sub-match-chain-3 c = inside (c .before .before) .lookahead .ordered
 
 part-match-chain-start-3 : tie.Need-part-match-chain-start-3
-part-match-chain-start-3 c = omega (arith, parts (c .before .before) .2 .ordered, parts (c .before .before) .2 .within)
+part-match-chain-start-3 c = omega (arith, inside (c .before .before) .lookahead .ordered, inside (c .before .before) .lookahead .within)
 
 part-match-chain-end-3 : tie.Need-part-match-chain-end-3
-part-match-chain-end-3 c = omega (arith, parts (c .before .before) .2 .ordered, parts (c .before .before) .2 .within)
+part-match-chain-end-3 c = omega (arith, inside (c .before .before) .lookahead .ordered, inside (c .before .before) .lookahead .within)
 
 match-chain-requires : tie.Need-match-chain-requires
-match-chain-requires c κs = let s = c .before .before .before .before .before .before .before .before .before .before .before in let g = parts (c .before .before .before) in (s .pre .0, s .pre .1, simp (length-take, length-drop) (omega (arith, g .0 .few)), simp (length-take, length-drop) (omega (arith, g .1 .few)), simp (length-take, length-drop) (omega (arith, g .2 .few)))
+match-chain-requires c κs =
+    let s = c .before .before .before .before .before .before .before .before .before .before .before .before .before .before .before .before in
+    let g = inside (c .before .before .before) in (
+      s .pre .0,
+      s .pre .1,
+      simp (length-take, length-drop) (omega (arith, g .backtrack .few)),
+      simp (length-take, length-drop) (omega (arith, g .input .few)),
+      simp (length-take, length-drop) (omega (arith, g .lookahead .few)),
+    )
 
 enum-told : tie.Need-enum-told
 enum-told c = search needs
@@ -81,7 +98,18 @@ no-aim-requires-3 : tie.Need-no-aim-requires-3
 no-aim-requires-3 c κs = search needs
 
 returns : tie.Need-returns
-returns c = let a = c .before .before .before .before .before .before .before .before .before .before .before .before .args in let e = c .before .before .before .before .before .before .e .given in rw (e .1) (c .match-chain .ensures ∙ aim-chain (a .given) (a .sets .now) (a .book .now) (textOf (a .done .now) (a .coming .now) (a .p)) (e .0 .0) (e .0 .1 .0) (e .0 .1 .1 .0) (e .0 .1 .1 .1 .0) (e .0 .1 .1 .1 .1 .0) (e .0 .1 .1 .1 .1 .1 .0) (c .before .before .before .before .ask .result) (c .before .before .before .before .ask .ensures))
+returns c =
+    let a = c .before .before .before .before .before .before .before .before .before .before .before .before .before .before .before .before .before .args in
+    let e = c .before .before .before .before .before .before .before .before .before .before .before .e .given in
+    let q = c .before .before .before .before .before .before .before .before .before .ask in
+    let k = e .0 .1 .0 in
+    let ws = a .book .now in
+    let t = textOf (a .done .now) (a .coming .now) (a .p) in
+    rw (e .1)
+    (c .match-chain .ensures
+    ∙ ap (λ (x : Tests). aimAt (k .records) (chainAt (q .result) (a .sets .now) t
+    (handedChain x ws (k .first) (partOf ws (k .backtrack)) (partOf ws (k .input)) (partOf ws (k .lookahead)) (k .records)))) (c .before .before .before .before .by-id .ensures)
+    ∙ aim-chain (a .given) (a .sets .now) ws t (e .0 .0) k (q .result) (q .ensures))
 
 returns-2 : tie.Need-returns-2
 returns-2 c = rw (c .before .enum-told .given .1) (c .no-aim .ensures)
@@ -98,6 +126,7 @@ take-aim-spec =
     (tie.spec
     enum-known-e
     ask-requires
+    by-id-requires
     mul-match-chain
     sub-match-chain
     part-match-chain-start

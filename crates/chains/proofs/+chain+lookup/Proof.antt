@@ -1,9 +1,11 @@
--- `chain` and `lookup` meet their contracts. The measure is twice the depth, and one more for a lookup: it falls from a chain to the lookups of its records, and from a lookup to its chain.
--- The loop's invariant: the records that are left, from here, do what all of them do from the start, and the level is sound over the text. Assumes nothing.
+-- `chain` and `lookup` meet their contracts. The measure is twice the depth, and one more for a lookup: it falls from a chain to the lookups of its
+-- records, and from a lookup to its chain. The loop's invariant: the records that are left, from here, do what all of them do from the start, and the
+-- level is sound over the text. Assumes nothing.
 use mathlib.Core.Path.{_≡_, refl, sym, ap, ap₂, _∙_}
 use mathlib.Core.Logic.{⊎-elim}
 use native.Mathlib.Omega.{arith}
 use borrow.Author.Needs.{needs}
+use borrow.Author.Tests.{not-true, not-false}
 use lib.ListN.{length, getD, take, drop}
 use Rattle.book.specs.Book.{recordsOf}
 use mathlib.Core.List.{List}
@@ -13,10 +15,11 @@ use Rattle.runs.specs.Run.{Stage, recordsBy, stepBy}
 use Rattle.levels.specs.declared.Slots.{Slots}
 use Rattle.levels.specs.Slots.{levelOf, shown, Neat}
 use Rattle.steps.specs.declared.State.{State}
-use Rattle.steps.specs.State.{stageOf, Able}
+use Rattle.steps.specs.State.{runOf, stageOf, Able}
 use Rattle.chains.specs.Levels.{Indexed}
-use Rattle.chains.specs.Cycle.{level-neat, entry-good, look-hit, look-miss, aim-sound}
-use Rattle.chains.specs.Turns.{recordAt, ready-neat, tried-deep, tried-inside, tried-few, tried-sound, tried-index, nestedAt, still-able, turn-rest, turn-go, records-turn, records-over, closed-is, closed-level, glyph-there, size-within}
+use Rattle.chains.specs.Cycle.{level-neat, entry-good, entry-run, look-acts, look-hit, look-miss, Opens, aim-opens}
+use Rattle.chains.specs.Turns.{recordAt, ready-neat, tried-deep, tried-inside, tried-few, tried-sound, tried-index, nestedAt, still-able}
+use Rattle.chains.specs.Turns.{turn-rest, turn-go, records-turn, records-over, closed-is, closed-level, glyph-there, size-within}
 use Prim.Native.Nat.{ℕ, _<_, _≤_, _+_, _-_}
 use borrow.Fn.Kinds.{In}
 use borrow.Fn.PlainCycle.{Measures, is, falls, and}
@@ -27,6 +30,7 @@ use Rattle.chains.proofs.lookup.Reads as lookup
 use Rattle.chains.proofs.lookup.Kinds as lookup-kinds
 use Rattle.chains.proofs.+chain+lookup.Lts-lookup as lookup-lts
 use Rattle.book.proofs.find_in.Reads as find-in-reads
+use Rattle.book.proofs.is_chain.Reads as is-chain-reads
 use Rattle.levels.proofs.repair.Reads as repair-reads
 use Rattle.aims.proofs.take_aim.Reads as take-aim-reads
 use Rattle.steps.proofs.act.Reads as act-reads
@@ -61,6 +65,8 @@ chain-cs t = (
   prepare-reads.Learnt,
   size-reads.Asked,
   size-reads.Learnt,
+  find-in-reads.Asked,
+  find-in-reads.Learnt,
   lookup-below t,
   lookup.Post,
   repair-reads.Asked,
@@ -71,14 +77,14 @@ chain-cs t = (
 
 abbrev lookup-cs : ℕ → lookup-lts.Claims
 lookup-cs t = (
-  find-in-reads.Asked,
-  find-in-reads.Learnt,
+  is-chain-reads.Asked,
+  is-chain-reads.Learnt,
+  act-reads.Asked,
+  act-reads.Learnt,
   take-aim-reads.Asked,
   take-aim-reads.Learnt,
   chain-below t,
   chain.Post,
-  act-reads.Asked,
-  act-reads.Learnt,
 )
 
 abbrev chain-Inv-loop : chain-lts.InvT-loop
@@ -125,17 +131,48 @@ chain-prepare-requires t c κs = c .before .before .before .before .before .loop
 chain-size-requires : (t : ℕ) → chain-lts.Need-size-requires (chain-cs t) (chain-at t) chain.Post chain-Inv-loop chain-μ-loop
 chain-size-requires t c κs = let f = c .before .before .before .before .before .before .before .before .prepare .ensures .ran .fits in (f .within, f .room)
 
+chain-find-in-requires : (t : ℕ) → chain-lts.Need-find-in-requires (chain-cs t) (chain-at t) chain.Post chain-Inv-loop chain-μ-loop
+chain-find-in-requires t c κs = search needs
+
 chain-sub-lookup : (t : ℕ) → chain-lts.Need-sub-lookup (chain-cs t) (chain-at t) chain.Post chain-Inv-loop chain-μ-loop
-chain-sub-lookup t c = tried-deep (c .before .before .before .before .before .before .before .before .before .before .before .before .before .before .before .before .before .before .before .before .before .before .before .args .depth) (recordAt (c .before .before .before .before .before .before .before .before .before .before .before .before .before .before .before .before .before .before .before .before .before .before .before .args .recs .now) (c .before .before .before .before .before .before .before .before .before .before .before .before .before .before .before .before .before .loop .i)) (c .before .before .before .before .before .before .before .before .before .before .before .before .before .before .before .before .before .loop .done) (c .before .before .before .before .before .before .before .before .before .before .before .before .before .before .before .before .before .loop .coming) (c .before .before .before .before .before .before .before .before .before .before .before .before .before .before .before .before .before .loop .st) (c .before .before .before .before .before .before .before .before .before .before .before .before .before .before .before .before .before .loop .lv) (c .before .before .before .before .before .before .before .before .before .before .before .before .before .before .before .before .before .loop .inv .3) (c .before .before .before .before .before .before .before .before .before .before .before .prepare .last .0) (c .before .before .before .before .before .before .before .before .before .before .before .prepare .last .1 .0) (c .before .before .before .before .before .before .before .before .before .before .before .prepare .result) (c .before .before .before .before .before .before .before .before .before .before .before .prepare .ensures) (c .before .before .before .before .if1 .taken)
+chain-sub-lookup t c =
+    let a = c .before .before .before .before .before .before .before .before .before .before .before .before .before .before .before .before .before .before .before .before .before .before .before .before .args in
+    let l = c .before .before .before .before .before .before .before .before .before .before .before .before .before .before .before .before .before .before .loop in
+    let p = c .before .before .before .before .before .before .before .before .before .before .before .before .prepare in
+    tried-deep (a .depth) (recordAt (a .recs .now) (l .i)) (l .done) (l .coming) (l .st) (l .lv) (l .inv .3) (p .last .0) (p .last .1 .0) (p .result) (p .ensures) (c .before .before .before .before .before .if1 .taken)
 
 chain-lookup-requires : (t : ℕ) → chain-lts.Need-lookup-requires (chain-cs t) (chain-at t) chain.Post chain-Inv-loop chain-μ-loop
-chain-lookup-requires t c κs = let d : 1 ≤ c .before .before .before .before .before .before .before .before .before .before .before .before .before .before .before .before .before .before .before .before .before .before .before .args .depth = chain-sub-lookup t c in (omega (arith, c .before .before .before .before .before .before .before .before .before .before .before .before .before .before .before .before .before .before .before .before .before .before .before .pre .0), (c .before .before .before .before .before .before .before .before .before .before .before .before .before .before .before .before .before .loop .inv .2, c .before .before .before .before .before .before .before .before .before .before .before .prepare .ensures .ran .fits, tried-inside (c .before .before .before .before .before .before .before .before .before .before .before .before .before .before .before .before .before .before .before .before .before .before .before .args .depth) (recordAt (c .before .before .before .before .before .before .before .before .before .before .before .before .before .before .before .before .before .before .before .before .before .before .before .args .recs .now) (c .before .before .before .before .before .before .before .before .before .before .before .before .before .before .before .before .before .loop .i)) (c .before .before .before .before .before .before .before .before .before .before .before .before .before .before .before .before .before .loop .done) (c .before .before .before .before .before .before .before .before .before .before .before .before .before .before .before .before .before .loop .coming) (c .before .before .before .before .before .before .before .before .before .before .before .before .before .before .before .before .before .loop .st) (c .before .before .before .before .before .before .before .before .before .before .before .before .before .before .before .before .before .loop .lv) (c .before .before .before .before .before .before .before .before .before .before .before .before .before .before .before .before .before .loop .inv .3) (c .before .before .before .before .before .before .before .before .before .before .before .prepare .last .0) (c .before .before .before .before .before .before .before .before .before .before .before .prepare .last .1 .0) (c .before .before .before .before .before .before .before .before .before .before .before .prepare .result) (c .before .before .before .before .before .before .before .before .before .before .before .prepare .ensures) (c .before .before .before .before .if1 .taken), tried-few (c .before .before .before .before .before .before .before .before .before .before .before .before .before .before .before .before .before .before .before .before .before .before .before .args .depth) (recordAt (c .before .before .before .before .before .before .before .before .before .before .before .before .before .before .before .before .before .before .before .before .before .before .before .args .recs .now) (c .before .before .before .before .before .before .before .before .before .before .before .before .before .before .before .before .before .loop .i)) (c .before .before .before .before .before .before .before .before .before .before .before .before .before .before .before .before .before .loop .done) (c .before .before .before .before .before .before .before .before .before .before .before .before .before .before .before .before .before .loop .coming) (c .before .before .before .before .before .before .before .before .before .before .before .before .before .before .before .before .before .loop .st) (c .before .before .before .before .before .before .before .before .before .before .before .before .before .before .before .before .before .loop .lv) (c .before .before .before .before .before .before .before .before .before .before .before .before .before .before .before .before .before .loop .inv .3) (c .before .before .before .before .before .before .before .before .before .before .before .prepare .last .0) (c .before .before .before .before .before .before .before .before .before .before .before .prepare .last .1 .0) (c .before .before .before .before .before .before .before .before .before .before .before .prepare .result) (c .before .before .before .before .before .before .before .before .before .before .before .prepare .ensures) (c .before .before .before .before .if1 .taken)))
+chain-lookup-requires t c κs =
+    let a = c .before .before .before .before .before .before .before .before .before .before .before .before .before .before .before .before .before .before .before .before .before .before .before .before .args in
+    let l = c .before .before .before .before .before .before .before .before .before .before .before .before .before .before .before .before .before .before .loop in
+    let p = c .before .before .before .before .before .before .before .before .before .before .before .before .prepare in
+    let go = c .before .before .before .before .before .if1 .taken in
+    let d : 1 ≤ a .depth = chain-sub-lookup t c in (
+      omega (arith, c .before .before .before .before .before .before .before .before .before .before .before .before .before .before .before .before .before .before .before .before .before .before .before .before .pre .0),
+      (
+        l .inv .2,
+        rw (c .before .before .find-in .ensures) (entry-good (l .inv .2) _),
+        p .ensures .ran .fits,
+        tried-inside (a .depth) (recordAt (a .recs .now) (l .i)) (l .done) (l .coming) (l .st) (l .lv) (l .inv .3) (p .last .0) (p .last .1 .0) (p .result) (p .ensures) go,
+        tried-few (a .depth) (recordAt (a .recs .now) (l .i)) (l .done) (l .coming) (l .st) (l .lv) (l .inv .3) (p .last .0) (p .last .1 .0) (p .result) (p .ensures) go,
+      ),
+    )
 
 chain-size-requires-2 : (t : ℕ) → chain-lts.Need-size-requires-2 (chain-cs t) (chain-at t) chain.Post chain-Inv-loop chain-μ-loop
 chain-size-requires-2 t c κs = let f = c .before .before .before .before .before .lookup .ensures .fits in (f .within, f .room)
 
 chain-repair-requires : (t : ℕ) → chain-lts.Need-repair-requires (chain-cs t) (chain-at t) chain.Post chain-Inv-loop chain-μ-loop
-chain-repair-requires t c κs = (ready-neat (c .before .before .before .before .before .before .before .before .before .before .before .before .before .before .before .before .before .before .before .before .before .before .before .before .before .before .before .before .before .before .args .depth) (recordAt (c .before .before .before .before .before .before .before .before .before .before .before .before .before .before .before .before .before .before .before .before .before .before .before .before .before .before .before .before .before .before .args .recs .now) (c .before .before .before .before .before .before .before .before .before .before .before .before .before .before .before .before .before .before .before .before .before .before .before .before .loop .i)) (c .before .before .before .before .before .before .before .before .before .before .before .before .before .before .before .before .before .before .before .before .before .before .before .before .loop .done) (c .before .before .before .before .before .before .before .before .before .before .before .before .before .before .before .before .before .before .before .before .before .before .before .before .loop .coming) (c .before .before .before .before .before .before .before .before .before .before .before .before .before .before .before .before .before .before .before .before .before .before .before .before .loop .st) (c .before .before .before .before .before .before .before .before .before .before .before .before .before .before .before .before .before .before .before .before .before .before .before .before .loop .lv) (c .before .before .before .before .before .before .before .before .before .before .before .before .before .before .before .before .before .before .before .before .before .before .before .before .loop .inv .3) (c .before .before .before .before .before .before .before .before .before .before .before .before .before .before .before .before .before .before .prepare .last .0) (c .before .before .before .before .before .before .before .before .before .before .before .before .before .before .before .before .before .before .prepare .last .1 .0) (c .before .before .before .before .before .before .before .before .before .before .before .before .before .before .before .before .before .before .prepare .result) (c .before .before .before .before .before .before .before .before .before .before .before .before .before .before .before .before .before .before .prepare .ensures), rw (c .before .before .before .before .before .before .before .before .before .size .ensures) (tried-sound (c .before .before .before .before .before .before .before .before .before .before .before .before .before .before .before .before .before .before .before .before .before .before .before .before .before .before .before .before .before .before .args .depth) (recordAt (c .before .before .before .before .before .before .before .before .before .before .before .before .before .before .before .before .before .before .before .before .before .before .before .before .before .before .before .before .before .before .args .recs .now) (c .before .before .before .before .before .before .before .before .before .before .before .before .before .before .before .before .before .before .before .before .before .before .before .before .loop .i)) (c .before .before .before .before .before .before .before .before .before .before .before .before .before .before .before .before .before .before .before .before .before .before .before .before .loop .done) (c .before .before .before .before .before .before .before .before .before .before .before .before .before .before .before .before .before .before .before .before .before .before .before .before .loop .coming) (c .before .before .before .before .before .before .before .before .before .before .before .before .before .before .before .before .before .before .before .before .before .before .before .before .loop .st) (c .before .before .before .before .before .before .before .before .before .before .before .before .before .before .before .before .before .before .before .before .before .before .before .before .loop .lv) (c .before .before .before .before .before .before .before .before .before .before .before .before .before .before .before .before .before .before .before .before .before .before .before .before .loop .inv .3) (c .before .before .before .before .before .before .before .before .before .before .before .before .before .before .before .before .before .before .prepare .last .0) (c .before .before .before .before .before .before .before .before .before .before .before .before .before .before .before .before .before .before .prepare .last .1 .0) (c .before .before .before .before .before .before .before .before .before .before .before .before .before .before .before .before .before .before .prepare .result) (c .before .before .before .before .before .before .before .before .before .before .before .before .before .before .before .before .before .before .prepare .ensures) (c .before .before .before .before .before .before .before .before .before .before .before .if1 .taken)), tried-index (c .before .before .before .before .before .before .before .before .before .before .before .before .before .before .before .before .before .before .before .before .before .before .before .before .before .before .before .before .before .before .args .depth) (recordAt (c .before .before .before .before .before .before .before .before .before .before .before .before .before .before .before .before .before .before .before .before .before .before .before .before .before .before .before .before .before .before .args .recs .now) (c .before .before .before .before .before .before .before .before .before .before .before .before .before .before .before .before .before .before .before .before .before .before .before .before .loop .i)) (c .before .before .before .before .before .before .before .before .before .before .before .before .before .before .before .before .before .before .before .before .before .before .before .before .loop .done) (c .before .before .before .before .before .before .before .before .before .before .before .before .before .before .before .before .before .before .before .before .before .before .before .before .loop .coming) (c .before .before .before .before .before .before .before .before .before .before .before .before .before .before .before .before .before .before .before .before .before .before .before .before .loop .st) (c .before .before .before .before .before .before .before .before .before .before .before .before .before .before .before .before .before .before .before .before .before .before .before .before .loop .lv) (c .before .before .before .before .before .before .before .before .before .before .before .before .before .before .before .before .before .before .before .before .before .before .before .before .loop .inv .3) (c .before .before .before .before .before .before .before .before .before .before .before .before .before .before .before .before .before .before .prepare .last .0) (c .before .before .before .before .before .before .before .before .before .before .before .before .before .before .before .before .before .before .prepare .last .1 .0) (c .before .before .before .before .before .before .before .before .before .before .before .before .before .before .before .before .before .before .prepare .result) (c .before .before .before .before .before .before .before .before .before .before .before .before .before .before .before .before .before .before .prepare .ensures) (c .before .before .before .before .before .before .before .before .before .before .before .if1 .taken), rw (c .before .before .before .before .before .before .before .before .before .size .ensures) (size-within (c .before .before .before .before .before .before .before .before .before .before .before .before .before .before .before .before .before .before .prepare .result .state) (c .before .before .before .before .before .before .before .before .before .before .before .before .before .before .before .before .before .before .prepare .ensures .ran .fits)), rw (c .size2 .ensures) (size-within (c .before .before .before .before .before .before .lookup .result) (c .before .before .before .before .before .before .lookup .ensures .fits)))
+chain-repair-requires t c κs =
+    let a = c .before .before .before .before .before .before .before .before .before .before .before .before .before .before .before .before .before .before .before .before .before .before .before .before .before .before .before .before .before .before .before .args in
+    let l = c .before .before .before .before .before .before .before .before .before .before .before .before .before .before .before .before .before .before .before .before .before .before .before .before .before .loop in
+    let p = c .before .before .before .before .before .before .before .before .before .before .before .before .before .before .before .before .before .before .before .prepare in
+    let go = c .before .before .before .before .before .before .before .before .before .before .before .before .if1 .taken in (
+      ready-neat (a .depth) (recordAt (a .recs .now) (l .i)) (l .done) (l .coming) (l .st) (l .lv) (l .inv .3) (p .last .0) (p .last .1 .0) (p .result) (p .ensures),
+      rw (c .before .before .before .before .before .before .before .before .before .before .size .ensures) (tried-sound (a .depth) (recordAt (a .recs .now) (l .i)) (l .done) (l .coming) (l .st) (l .lv) (l .inv .3) (p .last .0) (p .last .1 .0) (p .result) (p .ensures) go),
+      tried-index (a .depth) (recordAt (a .recs .now) (l .i)) (l .done) (l .coming) (l .st) (l .lv) (l .inv .3) (p .last .0) (p .last .1 .0) (p .result) (p .ensures) go,
+      rw (c .before .before .before .before .before .before .before .before .before .before .size .ensures) (size-within (p .result .state) (p .ensures .ran .fits)),
+      rw (c .size2 .ensures) (size-within (c .before .before .before .before .before .before .lookup .result) (c .before .before .before .before .before .before .lookup .ensures .fits)),
+    )
 
 chain-add-i : (t : ℕ) → chain-lts.Need-add-i (chain-cs t) (chain-at t) chain.Post chain-Inv-loop chain-μ-loop
 chain-add-i t c = omega (arith, c .before .before .before .before .before .before .before .before .before .before .before .before .loop-test .taken, c .before .before .before .before .before .before .before .before .before .before .before .before .before .before .before .before .before .before .before .good)
@@ -144,28 +181,50 @@ chain-loop-less : (t : ℕ) → chain-lts.Need-loop-less (chain-cs t) (chain-at 
 chain-loop-less t c = omega arith
 
 chain-loop-again : (t : ℕ) → chain-lts.Need-loop-again (chain-cs t) (chain-at t) chain.Post chain-Inv-loop chain-μ-loop
-chain-loop-again t c = let a = c .before .before .before .before .before .before .before .before .before .before .before .before .before .before .before .before .before .before .before .args in
+chain-loop-again t c =
+    let a = c .before .before .before .before .before .before .before .before .before .before .before .before .before .before .before .before .before .before .before .args in
     let l = c .before .before .before .before .before .before .before .before .before .before .before .before .before .loop in
     let p = c .before .before .before .before .before .before .before .prepare in
     let lt = c .before .before .before .before .before .before .before .before .before .before .before .before .loop-test .taken in
+    let ws = a .book .now in
     let r = recordAt (a .recs .now) (l .i) in
     let turn : (done₂ coming₂ : List ℕ) (s₂ : State) (lv₂ : Slots) → length done₂ ≡ length (a .done .now) → length coming₂ ≡ length (a .coming .now)
-    → stageOf done₂ coming₂ s₂ lv₂ ≡ stepBy (nestedAt (a .given) (a .sets .now) (a .book .now) (a .depth)) (a .depth) r (stageOf (l .done) (l .coming) (l .st) (l .lv)) → Neat lv₂ → Fits done₂ coming₂ (s₂ .place)
-    → chain-Inv-loop (a .done .now) (a .coming .now) (a .book .now) (a .starts .now) (a .count) (a .sets .now) (a .recs .now) (a .given) (a .depth) (a .s) (a .m) 0 done₂ coming₂ s₂ lv₂ (l .i + 2) =
+    → stageOf done₂ coming₂ s₂ lv₂ ≡ stepBy (nestedAt (a .given) (a .sets .now) (a .book .now) (a .depth)) (a .depth) r (stageOf (l .done) (l .coming) (l .st) (l .lv))
+    → Neat lv₂ → Fits done₂ coming₂ (s₂ .place)
+    → chain-Inv-loop (a .done .now) (a .coming .now) (a .book .now) (a .starts .now) (a .count) (a .sets .now) (a .recs .now) (a .given) (a .depth) (a .s) (a .m) 0
+    done₂ coming₂ s₂ lv₂ (l .i + 2) =
     λ done₂ coming₂ s₂ lv₂ u v e n f. (
       u,
       v,
       l .inv .2,
-      still-able (a .given) (a .sets .now) (a .book .now) (l .inv .2) (a .depth) r (l .done) (l .coming) (l .st) (l .lv) done₂ coming₂ s₂ lv₂ (l .inv .3) e n f,
-      records-turn (a .given) (a .sets .now) (a .book .now) (a .depth) (a .recs .now) (l .i) (stageOf (l .done) (l .coming) (l .st) (l .lv)) (stageOf done₂ coming₂ s₂ lv₂) lt e ∙ l .inv .4,
+      still-able (a .given) (a .sets .now) ws (l .inv .2) (a .depth) r (l .done) (l .coming) (l .st) (l .lv) done₂ coming₂ s₂ lv₂ (l .inv .3) e n f,
+      records-turn (a .given) (a .sets .now) ws (a .depth) (a .recs .now) (l .i) (stageOf (l .done) (l .coming) (l .st) (l .lv)) (stageOf done₂ coming₂ s₂ lv₂) lt e
+      ∙ l .inv .4,
       omega arith,
     ) in
-    ⊎-elim (λ w.
-    let lev = w .12 .ensures ∙ ap₂ (λ (x y : ℕ). shown (repaired (getD (a .recs .now) (l .i) 0) x y (levelOf (p .result .level)))) (w .2 .ensures) (w .11 .ensures) in
-    rw (w .13, w .14, w .15, w .16) (turn (w .5 .last .0) (w .5 .last .1 .0) (w .5 .result) (w .12 .result) (w .5 .kept .0 ∙ p .kept .0 ∙ l .inv .0) (w .5 .kept .1 .0 ∙ p .kept .1 .0 ∙ l .inv .1)
-    (turn-go (a .given) (a .sets .now) (a .book .now) (a .depth) (a .recs .now) (l .i) lt (l .done) (l .coming) (l .st) (l .lv) (l .inv .3) (p .last .0) (p .last .1 .0) (p .result) (p .ensures) (w .0 .taken) (w .5 .last .0) (w .5 .last .1 .0) (w .5 .result) (w .12 .result) (w .5 .ensures) lev) (level-neat (w .12 .result) (repaired (getD (a .recs .now) (l .i) 0) (sizeOf (p .result .state .place)) (sizeOf (w .5 .result .place)) (levelOf (p .result .level))) lev) (w .5 .ensures .fits))) (λ w.
-    rw (w .1, w .2, w .3, w .4) (turn (p .last .0) (p .last .1 .0) (p .result .state) (p .result .level) (p .kept .0 ∙ l .inv .0) (p .kept .1 .0 ∙ l .inv .1)
-    (turn-rest (a .given) (a .sets .now) (a .book .now) (a .depth) (a .recs .now) (l .i) lt (l .done) (l .coming) (l .st) (l .lv) (l .inv .3) (p .last .0) (p .last .1 .0) (p .result) (p .ensures) (w .0 .left)) (ready-neat (a .depth) r (l .done) (l .coming) (l .st) (l .lv) (l .inv .3) (p .last .0) (p .last .1 .0) (p .result) (p .ensures)) (p .ensures .ran .fits))) (c .if1 .came)
+    ⊎-elim
+    (λ w.
+    let went = w .6 in
+    let lev = w .13 .ensures
+    ∙ ap₂ (λ (x y : ℕ). shown (repaired (getD (a .recs .now) (l .i) 0) x y (levelOf (p .result .level)))) (w .2 .ensures) (w .12 .ensures) in
+    let is = went .ensures .is
+    ∙ entry-run (l .inv .2) (a .given) (a .sets .now) (a .depth - 1) (getD (a .recs .now) (l .i + 1) 0) (w .3 .result) (w .3 .ensures)
+    (runOf (p .last .0) (p .last .1 .0) (p .result .state)) in
+    rw (w .14, w .15, w .16, w .17)
+    (turn (went .last .0) (went .last .1 .0) (went .result) (w .13 .result) (went .kept .0 ∙ p .kept .0 ∙ l .inv .0) (went .kept .1 .0 ∙ p .kept .1 .0 ∙ l .inv .1)
+    (turn-go (a .given) (a .sets .now) ws (a .depth) (a .recs .now) (l .i) lt (l .done) (l .coming) (l .st) (l .lv) (l .inv .3)
+    (p .last .0) (p .last .1 .0) (p .result) (p .ensures) (w .0 .taken) (went .last .0) (went .last .1 .0) (went .result) (w .13 .result)
+    (record { fits = went .ensures .fits; is = is }) lev)
+    (level-neat (w .13 .result)
+    (repaired (getD (a .recs .now) (l .i) 0) (sizeOf (p .result .state .place)) (sizeOf (went .result .place)) (levelOf (p .result .level))) lev)
+    (went .ensures .fits)))
+    (λ w.
+    rw (w .1, w .2, w .3, w .4)
+    (turn (p .last .0) (p .last .1 .0) (p .result .state) (p .result .level) (p .kept .0 ∙ l .inv .0) (p .kept .1 .0 ∙ l .inv .1)
+    (turn-rest (a .given) (a .sets .now) ws (a .depth) (a .recs .now) (l .i) lt (l .done) (l .coming) (l .st) (l .lv) (l .inv .3)
+    (p .last .0) (p .last .1 .0) (p .result) (p .ensures) (w .0 .left))
+    (ready-neat (a .depth) r (l .done) (l .coming) (l .st) (l .lv) (l .inv .3) (p .last .0) (p .last .1 .0) (p .result) (p .ensures)) (p .ensures .ran .fits)))
+    (c .if1 .came)
 
 chain-finish-requires : (t : ℕ) → chain-lts.Need-finish-requires (chain-cs t) (chain-at t) chain.Post chain-Inv-loop chain-μ-loop
 chain-finish-requires t c κs = let a = c .before .before .before .loop .inv .3 in (a .fits, a .sound .within)
@@ -177,49 +236,105 @@ chain-same-length-2 : (t : ℕ) → chain-lts.Need-same-length-2 (chain-cs t) (c
 chain-same-length-2 t c = c .before .before .before .before .finish .kept .1 .0 ∙ c .before .before .before .before .before .before .before .before .loop .inv .1
 
 chain-returns : (t : ℕ) → chain-lts.Need-returns (chain-cs t) (chain-at t) chain.Post chain-Inv-loop chain-μ-loop
-chain-returns t c = let a = c .before .before .before .before .before .before .before .before .before .before .before .before .before .before .args in let l = c .before .before .before .before .before .before .before .before .loop in let w = c .before .before .before .before .before .before .before .loop-test .left in let f = c .before .before .before .before .finish .ensures in let e = sym (records-over (a .given) (a .sets .now) (a .book .now) (a .depth) (a .recs .now) (l .i) (stageOf (l .done) (l .coming) (l .st) (l .lv)) w) ∙ l .inv .4 in record { ran = record { fits = f .fits; is = f .is ∙ closed-is (a .given) (a .sets .now) (a .book .now) (a .depth) (recordsOf (a .recs .now)) (stageOf (a .done .now) (a .coming .now) (a .s) (a .m)) (stageOf (l .done) (l .coming) (l .st) (l .lv)) e }; level = sym (l .inv .3 .neat) ∙ ap shown (closed-level (a .given) (a .sets .now) (a .book .now) (a .depth) (recordsOf (a .recs .now)) (stageOf (a .done .now) (a .coming .now) (a .s) (a .m)) (stageOf (l .done) (l .coming) (l .st) (l .lv)) e) }
+chain-returns t c =
+    let a = c .before .before .before .before .before .before .before .before .before .before .before .before .before .before .args in
+    let l = c .before .before .before .before .before .before .before .before .loop in
+    let f = c .before .before .before .before .finish .ensures in
+    let first = stageOf (a .done .now) (a .coming .now) (a .s) (a .m) in
+    let last = stageOf (l .done) (l .coming) (l .st) (l .lv) in
+    let rs = recordsOf (a .recs .now) in
+    let e = sym (records-over (a .given) (a .sets .now) (a .book .now) (a .depth) (a .recs .now) (l .i) last (c .before .before .before .before .before .before .before .loop-test .left)) ∙ l .inv .4 in
+    record {
+      ran = record { fits = f .fits; is = f .is ∙ closed-is (a .given) (a .sets .now) (a .book .now) (a .depth) rs first last e };
+      level = sym (l .inv .3 .neat) ∙ ap shown (closed-level (a .given) (a .sets .now) (a .book .now) (a .depth) rs first last e);
+    }
 
-lookup-find-in-requires : (t : ℕ) → lookup-lts.Need-find-in-requires (lookup-cs t) (lookup-at t) lookup.Post
-lookup-find-in-requires t c κs = search needs
+-- ---- a lookup
 
-lookup-take-aim-requires : (t : ℕ) → lookup-lts.Need-take-aim-requires (lookup-cs t) (lookup-at t) lookup.Post
-lookup-take-aim-requires t c κs = let s = c .before .before .before .before .before .before .before .before in (s .pre .1 .1, s .pre .1 .2, rw (c .before .before .before .find-in .ensures) (entry-good (s .pre .1 .0) (s .args .k)))
-
-lookup-mul-chain : (t : ℕ) → lookup-lts.Need-mul-chain (lookup-cs t) (lookup-at t) lookup.Post
-lookup-mul-chain t c = let i = aim-sound (c .before .before .before .before .before .before .before .before .before .before .before .before .before .before .args .given) (c .before .before .before .before .before .before .before .before .before .before .before .before .before .before .args .sets .now) (c .before .before .before .before .before .before .before .before .before .before .before .before .before .before .args .book .now) (c .before .before .before .before .before .before .before .before .before .before .before .before .before .before .args .depth) (c .before .before .before .before .before .before .before .before .before .before .before .before .before .before .args .done .now) (c .before .before .before .before .before .before .before .before .before .before .before .before .before .before .args .coming .now) (c .before .before .before .before .before .before .before .before .before .before .before .before .before .before .args .s) (c .before .before .before .before .before .before .before .before .before .before .before .before .before .before .pre .1 .0) (c .before .before .before .before .before .before .before .before .before .before .before .before .before .before .args .k) (c .before .before .before .before .before .before .before .before .before .find-in .result) (c .before .before .before .before .before .before .before .before .before .find-in .ensures) (c .before .before .before .before .before .take-aim .result) (c .before .before .before .before .before .take-aim .ensures) (glyph-there (c .before .before .before .before .before .before .before .before .before .before .before .before .before .before .args .done .now) (c .before .before .before .before .before .before .before .before .before .before .before .before .before .before .args .coming .now) (c .before .before .before .before .before .before .before .before .before .before .before .before .before .before .args .s) (c .before .before .before .before .before .before .before .before .before .before .before .before .before .before .pre .1 .1) (c .before .before .before .before .before .before .before .before .before .before .before .before .before .before .pre .1 .2)) (c .before .before .before .before .if1 .taken) .1 in omega (arith, i .0, i .1)
-
-lookup-sub-chain : (t : ℕ) → lookup-lts.Need-sub-chain (lookup-cs t) (lookup-at t) lookup.Post
-lookup-sub-chain t c = aim-sound (c .before .before .before .before .before .before .before .before .before .before .before .before .before .before .args .given) (c .before .before .before .before .before .before .before .before .before .before .before .before .before .before .args .sets .now) (c .before .before .before .before .before .before .before .before .before .before .before .before .before .before .args .book .now) (c .before .before .before .before .before .before .before .before .before .before .before .before .before .before .args .depth) (c .before .before .before .before .before .before .before .before .before .before .before .before .before .before .args .done .now) (c .before .before .before .before .before .before .before .before .before .before .before .before .before .before .args .coming .now) (c .before .before .before .before .before .before .before .before .before .before .before .before .before .before .args .s) (c .before .before .before .before .before .before .before .before .before .before .before .before .before .before .pre .1 .0) (c .before .before .before .before .before .before .before .before .before .before .before .before .before .before .args .k) (c .before .before .before .before .before .before .before .before .before .find-in .result) (c .before .before .before .before .before .before .before .before .before .find-in .ensures) (c .before .before .before .before .before .take-aim .result) (c .before .before .before .before .before .take-aim .ensures) (glyph-there (c .before .before .before .before .before .before .before .before .before .before .before .before .before .before .args .done .now) (c .before .before .before .before .before .before .before .before .before .before .before .before .before .before .args .coming .now) (c .before .before .before .before .before .before .before .before .before .before .before .before .before .before .args .s) (c .before .before .before .before .before .before .before .before .before .before .before .before .before .before .pre .1 .1) (c .before .before .before .before .before .before .before .before .before .before .before .before .before .before .pre .1 .2)) (c .before .before .before .before .if1 .taken) .1 .0
-
-lookup-part-chain-start : (t : ℕ) → lookup-lts.Need-part-chain-start (lookup-cs t) (lookup-at t) lookup.Post
-lookup-part-chain-start t c = let i = aim-sound (c .before .before .before .before .before .before .before .before .before .before .before .before .before .before .args .given) (c .before .before .before .before .before .before .before .before .before .before .before .before .before .before .args .sets .now) (c .before .before .before .before .before .before .before .before .before .before .before .before .before .before .args .book .now) (c .before .before .before .before .before .before .before .before .before .before .before .before .before .before .args .depth) (c .before .before .before .before .before .before .before .before .before .before .before .before .before .before .args .done .now) (c .before .before .before .before .before .before .before .before .before .before .before .before .before .before .args .coming .now) (c .before .before .before .before .before .before .before .before .before .before .before .before .before .before .args .s) (c .before .before .before .before .before .before .before .before .before .before .before .before .before .before .pre .1 .0) (c .before .before .before .before .before .before .before .before .before .before .before .before .before .before .args .k) (c .before .before .before .before .before .before .before .before .before .find-in .result) (c .before .before .before .before .before .before .before .before .before .find-in .ensures) (c .before .before .before .before .before .take-aim .result) (c .before .before .before .before .before .take-aim .ensures) (glyph-there (c .before .before .before .before .before .before .before .before .before .before .before .before .before .before .args .done .now) (c .before .before .before .before .before .before .before .before .before .before .before .before .before .before .args .coming .now) (c .before .before .before .before .before .before .before .before .before .before .before .before .before .before .args .s) (c .before .before .before .before .before .before .before .before .before .before .before .before .before .before .pre .1 .1) (c .before .before .before .before .before .before .before .before .before .before .before .before .before .before .pre .1 .2)) (c .before .before .before .before .if1 .taken) .1 in omega (arith, i .0, i .1)
-
-lookup-part-chain-end : (t : ℕ) → lookup-lts.Need-part-chain-end (lookup-cs t) (lookup-at t) lookup.Post
-lookup-part-chain-end t c = let i = aim-sound (c .before .before .before .before .before .before .before .before .before .before .before .before .before .before .args .given) (c .before .before .before .before .before .before .before .before .before .before .before .before .before .before .args .sets .now) (c .before .before .before .before .before .before .before .before .before .before .before .before .before .before .args .book .now) (c .before .before .before .before .before .before .before .before .before .before .before .before .before .before .args .depth) (c .before .before .before .before .before .before .before .before .before .before .before .before .before .before .args .done .now) (c .before .before .before .before .before .before .before .before .before .before .before .before .before .before .args .coming .now) (c .before .before .before .before .before .before .before .before .before .before .before .before .before .before .args .s) (c .before .before .before .before .before .before .before .before .before .before .before .before .before .before .pre .1 .0) (c .before .before .before .before .before .before .before .before .before .before .before .before .before .before .args .k) (c .before .before .before .before .before .before .before .before .before .find-in .result) (c .before .before .before .before .before .before .before .before .before .find-in .ensures) (c .before .before .before .before .before .take-aim .result) (c .before .before .before .before .before .take-aim .ensures) (glyph-there (c .before .before .before .before .before .before .before .before .before .before .before .before .before .before .args .done .now) (c .before .before .before .before .before .before .before .before .before .before .before .before .before .before .args .coming .now) (c .before .before .before .before .before .before .before .before .before .before .before .before .before .before .args .s) (c .before .before .before .before .before .before .before .before .before .before .before .before .before .before .pre .1 .1) (c .before .before .before .before .before .before .before .before .before .before .before .before .before .before .pre .1 .2)) (c .before .before .before .before .if1 .taken) .1 in omega (arith, i .0, i .1)
-
-lookup-chain-requires : (t : ℕ) → lookup-lts.Need-chain-requires (lookup-cs t) (lookup-at t) lookup.Post
-lookup-chain-requires t c κs = let s = c .before .before .before .before .before .before .before .before .before .before .before .before .before .before .before in let q = aim-sound (c .before .before .before .before .before .before .before .before .before .before .before .before .before .before .before .args .given) (c .before .before .before .before .before .before .before .before .before .before .before .before .before .before .before .args .sets .now) (c .before .before .before .before .before .before .before .before .before .before .before .before .before .before .before .args .book .now) (c .before .before .before .before .before .before .before .before .before .before .before .before .before .before .before .args .depth) (c .before .before .before .before .before .before .before .before .before .before .before .before .before .before .before .args .done .now) (c .before .before .before .before .before .before .before .before .before .before .before .before .before .before .before .args .coming .now) (c .before .before .before .before .before .before .before .before .before .before .before .before .before .before .before .args .s) (c .before .before .before .before .before .before .before .before .before .before .before .before .before .before .before .pre .1 .0) (c .before .before .before .before .before .before .before .before .before .before .before .before .before .before .before .args .k) (c .before .before .before .before .before .before .before .before .before .before .find-in .result) (c .before .before .before .before .before .before .before .before .before .before .find-in .ensures) (c .before .before .before .before .before .before .take-aim .result) (c .before .before .before .before .before .before .take-aim .ensures) (glyph-there (c .before .before .before .before .before .before .before .before .before .before .before .before .before .before .before .args .done .now) (c .before .before .before .before .before .before .before .before .before .before .before .before .before .before .before .args .coming .now) (c .before .before .before .before .before .before .before .before .before .before .before .before .before .before .before .args .s) (c .before .before .before .before .before .before .before .before .before .before .before .before .before .before .before .pre .1 .1) (c .before .before .before .before .before .before .before .before .before .before .before .before .before .before .before .pre .1 .2)) (c .before .before .before .before .before .if1 .taken) .0 in (omega (arith, s .pre .0), (s .pre .1 .0, record { fits = s .pre .1 .1; few = s .pre .1 .3; neat = q .0; sound = q .1 }))
-
-lookup-same-length : (t : ℕ) → lookup-lts.Need-same-length (lookup-cs t) (lookup-at t) lookup.Post
-lookup-same-length t c = c .before .before .before .before .before .chain .kept .0
-
-lookup-same-length-2 : (t : ℕ) → lookup-lts.Need-same-length-2 (lookup-cs t) (lookup-at t) lookup.Post
-lookup-same-length-2 t c = c .before .before .before .before .before .chain .kept .1 .0
-
-lookup-returns : (t : ℕ) → lookup-lts.Need-returns (lookup-cs t) (lookup-at t) lookup.Post
-lookup-returns t c = let f = c .before .before .before .before .before .chain .ensures .ran in record { fits = f .fits; is = f .is ∙ look-hit (c .before .before .before .before .before .before .before .before .before .before .before .before .before .before .before .before .before .before .before .before .before .args .given) (c .before .before .before .before .before .before .before .before .before .before .before .before .before .before .before .before .before .before .before .before .before .args .sets .now) (c .before .before .before .before .before .before .before .before .before .before .before .before .before .before .before .before .before .before .before .before .before .args .book .now) (c .before .before .before .before .before .before .before .before .before .before .before .before .before .before .before .before .before .before .before .before .before .args .depth) (c .before .before .before .before .before .before .before .before .before .before .before .before .before .before .before .before .before .before .before .before .before .args .done .now) (c .before .before .before .before .before .before .before .before .before .before .before .before .before .before .before .before .before .before .before .before .before .args .coming .now) (c .before .before .before .before .before .before .before .before .before .before .before .before .before .before .before .before .before .before .before .before .before .args .s) (c .before .before .before .before .before .before .before .before .before .before .before .before .before .before .before .before .before .before .before .before .before .pre .1 .0) (c .before .before .before .before .before .before .before .before .before .before .before .before .before .before .before .before .before .before .before .before .before .args .k) (c .before .before .before .before .before .before .before .before .before .before .before .before .before .before .before .before .find-in .result) (c .before .before .before .before .before .before .before .before .before .before .before .before .before .before .before .before .find-in .ensures) (c .before .before .before .before .before .before .before .before .before .before .before .before .take-aim .result) (c .before .before .before .before .before .before .before .before .before .before .before .before .take-aim .ensures) (c .before .before .before .before .before .before .before .before .before .before .before .if1 .taken) }
+lookup-is-chain-requires : (t : ℕ) → lookup-lts.Need-is-chain-requires (lookup-cs t) (lookup-at t) lookup.Post
+lookup-is-chain-requires t c κs = search needs
 
 lookup-act-requires : (t : ℕ) → lookup-lts.Need-act-requires (lookup-cs t) (lookup-at t) lookup.Post
-lookup-act-requires t c κs = let s = c .before .before .before .before .before .before .before .before .before .before .before .before in (s .pre .1 .1, s .pre .1 .2, rw (c .before .before .before .before .before .before .before .find-in .ensures) (entry-good (s .pre .1 .0) (s .args .k)))
+lookup-act-requires t c κs = let s = c .before .before .before .before .before .before .before .before in (s .pre .1 .2, s .pre .1 .3, s .pre .1 .1)
+
+lookup-same-length : (t : ℕ) → lookup-lts.Need-same-length (lookup-cs t) (lookup-at t) lookup.Post
+lookup-same-length t c = c .before .before .before .before .act .kept .0
+
+lookup-same-length-2 : (t : ℕ) → lookup-lts.Need-same-length-2 (lookup-cs t) (lookup-at t) lookup.Post
+lookup-same-length-2 t c = c .before .before .before .before .act .kept .1 .0
+
+lookup-returns : (t : ℕ) → lookup-lts.Need-returns (lookup-cs t) (lookup-at t) lookup.Post
+lookup-returns t c =
+    let a = c .before .before .before .before .before .before .before .before .before .before .before .before .before .args in
+    let f = c .before .before .before .before .act .ensures in
+    let not-chain = sym (c .before .before .before .before .before .before .before .before .is-chain .ensures) ∙ not-true _ (c .before .before .before .before .before .before .before .if1 .taken) in
+    record { fits = f .fits; is = f .is ∙ look-acts (a .given) (a .sets .now) (a .book .now) (a .depth) (a .done .now) (a .coming .now) (a .s) (a .e) not-chain }
+
+lookup-take-aim-requires : (t : ℕ) → lookup-lts.Need-take-aim-requires (lookup-cs t) (lookup-at t) lookup.Post
+lookup-take-aim-requires t c κs = let s = c .before .before .before .before .before .before .before .before .before in (s .pre .1 .2, s .pre .1 .3, s .pre .1 .1)
 
 lookup-same-length-3 : (t : ℕ) → lookup-lts.Need-same-length-3 (lookup-cs t) (lookup-at t) lookup.Post
-lookup-same-length-3 t c = c .before .before .act .kept .0
+lookup-same-length-3 t c = refl
 
 lookup-same-length-4 : (t : ℕ) → lookup-lts.Need-same-length-4 (lookup-cs t) (lookup-at t) lookup.Post
 lookup-same-length-4 t c = refl
 
 lookup-returns-2 : (t : ℕ) → lookup-lts.Need-returns-2 (lookup-cs t) (lookup-at t) lookup.Post
-lookup-returns-2 t c = let f = c .before .before .act .ensures in record { fits = f .fits; is = f .is ∙ look-miss (c .before .before .before .before .before .before .before .before .before .before .before .before .before .before .before .args .given) (c .before .before .before .before .before .before .before .before .before .before .before .before .before .before .before .args .sets .now) (c .before .before .before .before .before .before .before .before .before .before .before .before .before .before .before .args .book .now) (c .before .before .before .before .before .before .before .before .before .before .before .before .before .before .before .args .depth) (c .before .before .before .before .before .before .before .before .before .before .before .before .before .before .before .args .done .now) (c .before .before .before .before .before .before .before .before .before .before .before .before .before .before .before .args .coming .now) (c .before .before .before .before .before .before .before .before .before .before .before .before .before .before .before .args .s) (c .before .before .before .before .before .before .before .before .before .before .before .before .before .before .before .pre .1 .0) (c .before .before .before .before .before .before .before .before .before .before .before .before .before .before .before .args .k) (c .before .before .before .before .before .before .before .before .before .before .find-in .result) (c .before .before .before .before .before .before .before .before .before .before .find-in .ensures) (c .before .before .before .before .before .before .take-aim .result) (c .before .before .before .before .before .before .take-aim .ensures) (c .before .before .before .before .before .if1 .left) }
+lookup-returns-2 t c =
+    let s = c .before .before .before .before .before .before .before .before .before .before .before .before in
+    let a = s .args in
+    let aim = c .before .before .take-aim in
+    let is-chain = sym (c .before .before .before .before .before .before .before .is-chain .ensures) ∙ not-false _ (c .before .before .before .before .before .before .if1 .left) in
+    record {
+      fits = s .pre .1 .2;
+      is = look-miss (a .given) (a .sets .now) (a .book .now) (a .depth) (a .done .now) (a .coming .now) (a .s) (a .e) (aim .result) (aim .ensures) is-chain
+          (not-true _ (c .if2 .taken));
+    }
+
+-- the level that the chain opens
+module _ (t : ℕ) (c : lookup-lts.After-chain-arg2 (lookup-cs t) (lookup-at t) lookup.Post) where
+  opens : let a = c .before .before .before .before .before .before .before .before .before .before .before .before .before .before .before .before .args in Opens (a .given) (a .sets .now) (a .book .now) (a .depth) (a .done .now) (a .coming .now) (a .s) (a .e) (c .before .before .before .before .before .before .take-aim .result)
+  opens =
+      let s = c .before .before .before .before .before .before .before .before .before .before .before .before .before .before .before .before in
+      let a = s .args in
+      let aim = c .before .before .before .before .before .before .take-aim in
+      aim-opens (a .given) (a .sets .now) (a .book .now) (a .depth) (a .done .now) (a .coming .now) (a .s) (a .e) (aim .result) (aim .ensures) (s .pre .1 .1)
+      (glyph-there (a .done .now) (a .coming .now) (a .s) (s .pre .1 .2) (s .pre .1 .3)) (not-false _ (c .before .before .before .before .if2 .left))
+
+lookup-mul-chain : (t : ℕ) → lookup-lts.Need-mul-chain (lookup-cs t) (lookup-at t) lookup.Post
+lookup-mul-chain t c = omega (arith, c .before .before .before .before .before .before .before .before .before .before .before .before .before .before .before .before .good, opens t c .ordered, opens t c .within)
+
+lookup-sub-chain : (t : ℕ) → lookup-lts.Need-sub-chain (lookup-cs t) (lookup-at t) lookup.Post
+lookup-sub-chain t c = opens t c .ordered
+
+lookup-part-chain-start : (t : ℕ) → lookup-lts.Need-part-chain-start (lookup-cs t) (lookup-at t) lookup.Post
+lookup-part-chain-start t c = omega (arith, opens t c .ordered, opens t c .within)
+
+lookup-part-chain-end : (t : ℕ) → lookup-lts.Need-part-chain-end (lookup-cs t) (lookup-at t) lookup.Post
+lookup-part-chain-end t c = omega (arith, opens t c .ordered, opens t c .within)
+
+lookup-chain-requires : (t : ℕ) → lookup-lts.Need-chain-requires (lookup-cs t) (lookup-at t) lookup.Post
+lookup-chain-requires t c κs =
+    let s = c .before .before .before .before .before .before .before .before .before .before .before .before .before .before .before .before .before in
+    let q = opens t (c .before) in
+    (omega (arith, s .pre .0), (s .pre .1 .0, record { fits = s .pre .1 .2; few = s .pre .1 .4; neat = q .neat; sound = q .sound }))
+
+lookup-same-length-5 : (t : ℕ) → lookup-lts.Need-same-length-5 (lookup-cs t) (lookup-at t) lookup.Post
+lookup-same-length-5 t c = c .before .before .before .before .before .chain .kept .0
+
+lookup-same-length-6 : (t : ℕ) → lookup-lts.Need-same-length-6 (lookup-cs t) (lookup-at t) lookup.Post
+lookup-same-length-6 t c = c .before .before .before .before .before .chain .kept .1 .0
+
+lookup-returns-3 : (t : ℕ) → lookup-lts.Need-returns-3 (lookup-cs t) (lookup-at t) lookup.Post
+lookup-returns-3 t c =
+    let a = c .before .before .before .before .before .before .before .before .before .before .before .before .before .before .before .before .before .before .before .before .before .before .before .args in
+    let aim = c .before .before .before .before .before .before .before .before .before .before .before .before .before .take-aim in
+    let f = c .before .before .before .before .before .chain .ensures .ran in
+    record {
+      fits = f .fits;
+      is = f .is
+          ∙ look-hit (a .given) (a .sets .now) (a .book .now) (a .depth) (a .done .now) (a .coming .now) (a .s) (a .e) (aim .result) (aim .ensures) (not-false _ (c .before .before .before .before .before .before .before .before .before .before .before .if2 .left));
+    }
 
 pub +chain+lookup-spec : {M : Type 1} → statement M
 +chain+lookup-spec = close μ-chain μ-lookup (λ t. chain-lts.spec (chain-cs t)
@@ -238,6 +353,7 @@ pub +chain+lookup-spec : {M : Type 1} → statement M
     (chain-cast-k t)
     (chain-prepare-requires t)
     (chain-size-requires t)
+    (chain-find-in-requires t)
     (chain-sub-lookup t)
     (chain-lookup-requires t)
     (chain-size-requires-2 t)
@@ -252,17 +368,20 @@ pub +chain+lookup-spec : {M : Type 1} → statement M
     λ t. lookup-lts.spec (lookup-cs t)
     (lookup-at t)
     lookup.Post
-    (lookup-find-in-requires t)
+    (lookup-is-chain-requires t)
+    (lookup-act-requires t)
+    (lookup-same-length t)
+    (lookup-same-length-2 t)
+    (lookup-returns t)
     (lookup-take-aim-requires t)
+    (lookup-same-length-3 t)
+    (lookup-same-length-4 t)
+    (lookup-returns-2 t)
     (lookup-mul-chain t)
     (lookup-sub-chain t)
     (lookup-part-chain-start t)
     (lookup-part-chain-end t)
     (lookup-chain-requires t)
-    (lookup-same-length t)
-    (lookup-same-length-2 t)
-    (lookup-returns t)
-    (lookup-act-requires t)
-    (lookup-same-length-3 t)
-    (lookup-same-length-4 t)
-    (lookup-returns-2 t)
+    (lookup-same-length-5 t)
+    (lookup-same-length-6 t)
+    (lookup-returns-3 t)

@@ -5,7 +5,7 @@ use lib.ListN.{take}
 use Rattle.text.specs.Text.{textOf}
 use Rattle.book.specs.Book.{recordsOf, lookupsOf}
 use Rattle.runs.specs.Run.{begun, chainRun, movedLevel}
-use Rattle.runs.specs.Chain.{ruled}
+use Rattle.runs.specs.Deeds.{ruled}
 use Rattle.chains.specs.Cycle.{level-neat}
 use Rattle.nested.specs.Calls.{runSays}
 use Rattle.nested.specs.declared.Refusal.the-variants.{Match}

@@ -1,5 +1,10 @@
 -- The three cases are the definition's. Assumes nothing.
-use mathlib.Core.Path.{_∙_}
+use mathlib.Core.Path.{ap, _∙_}
+use mathlib.Core.Bool.{true}
+use native.Mathlib.Omega.{arith}
+use Rattle.runs.specs.declared.Tally.{Tally}
+use Rattle.steps.specs.declared.State.{State}
+use Rattle.steps.specs.State.{talliedAs}
 use Rattle.steps.specs.Steps.{judge-short, judge-deep, judge-spend}
 use borrow.Author.Needs.{needs}
 use Rattle.steps.proofs.judge.Statement.{statement}
@@ -9,23 +14,27 @@ stop-requires : tie.Need-stop-requires
 stop-requires c κs = search needs
 
 returns : tie.Need-returns
-returns c = let a = c .before .before .args in c .stop .ensures ∙ judge-short (a .depth) (a .s) (a .lv) (c .before .if1 .taken)
+returns c = let a = c .before .before .before .before .args in c .stop .ensures ∙ judge-short (a .depth) (a .s) (a .lv) (c .before .if1 .taken)
 
 stop-requires-2 : tie.Need-stop-requires-2
 stop-requires-2 c κs = search needs
 
 returns-2 : tie.Need-returns-2
-returns-2 c = let a = c .before .before .before .args in c .stop2 .ensures ∙ judge-deep (a .depth) (a .s) (a .lv) (c .before .before .if1 .left) (c .before .if2 .taken)
+returns-2 c = let a = c .before .before .before .before .before .args in c .stop2 .ensures ∙ judge-deep (a .depth) (a .s) (a .lv) (c .before .before .if1 .left) (c .before .if2 .taken)
 
-sub-t10 : tie.Need-sub-t10
-sub-t10 c = search needs
+spend-requires : tie.Need-spend-requires
+spend-requires c κs = (omega (arith, c .before .if1 .left), c .before .before .before .before .pre)
 
-add-t11 : tie.Need-add-t11
-add-t11 c = search needs
+tallied-requires : tie.Need-tallied-requires
+tallied-requires c κs = search needs
 
 returns-3 : tie.Need-returns-3
-returns-3 c = let a = c .before .before .before .before .args in judge-spend (a .depth) (a .s) (a .lv) (c .before .before .before .if1 .left) (c .before .before .if2 .left)
+returns-3 c =
+    let a = c .before .before .before .before .before .before .args in
+    let s = c .tallied .ensures ∙ ap (λ (y : Tally). talliedAs y (a .s)) (c .before .spend .ensures) in
+    ap (λ (s : State). record { go = true; state = s; level = a .lv }) s ∙ judge-spend (a .depth) (a .s) (a .lv) (c .before .before .before .if1 .left) (c .before .before .if2 .left)
 
 pub judge-spec : {M : Type 1} → statement M
 judge-spec =
-    tie.close (tie.spec stop-requires returns stop-requires-2 returns-2 sub-t10 add-t11 returns-3)
+    tie.close
+    (tie.spec stop-requires returns stop-requires-2 returns-2 spend-requires tallied-requires returns-3)
