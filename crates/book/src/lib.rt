@@ -34,20 +34,9 @@ pub struct ChainParts {
 
 // A lookup and where its parts stand.
 pub enum Entry {
-    One {
-        props: u32,
-        from: u32,
-        to: u32,
-    },
-    Many {
-        props: u32,
-        from: u32,
-        ids: Part,
-    },
-    Chain {
-        props: u32,
-        parts: ChainParts,
-    },
+    One { props: u32, from: u32, to: u32 },
+    Many { props: u32, from: u32, ids: Part },
+    Chain { props: u32, parts: ChainParts },
     Missing,
 }
 

@@ -18,6 +18,7 @@ use Rattle.glyph.specs.Write.{withId}
 use Rattle.book.specs.Book.{recordsOf, counted, bodyOf, firstOf, readLookups, readBook, lookupAt}
 use Rattle.runs.specs.Repair.{following, gained, lost, grownBy, shrunkBy, repaired}
 use Rattle.runs.specs.Run.{triedBy, recordsBy, closed, chainRun}
+use Rattle.runs.specs.Deeds.{deedBy}
 use Rattle.nested.specs.Calls.{checkedFirst, checkedAll, risesTo}
 use Rattle.cards.specs.Card.{Card}
 use Rattle.cards.specs.Sums.{masksOf, bitsBelow}
@@ -31,7 +32,7 @@ abbrev pub wanted : Card → List (List ℕ)
 wanted c = c .wanted
 
 pub all-cards : map given cards ≡ map wanted cards
-unfolding every some ranged masksOf bitsBelow blank inSet inputMatcher contextMatcher matcherOf skipYes ignorable skipOf ruledOut matchOf verdict walk walkFrom takes reached mayJoin baseBefore baseSkips inputBy inputOn ligated limit glyphs glyphsOf illShaped badText inputFit inputOf withId recordsOf counted bodyOf firstOf readLookups readBook lookupAt following gained lost grownBy shrunkBy repaired triedBy recordsBy closed chainRun checkedFirst checkedAll risesTo
+unfolding every some ranged masksOf bitsBelow blank inSet inputMatcher contextMatcher matcherOf skipYes ignorable skipOf ruledOut matchOf verdict walk walkFrom takes reached mayJoin baseBefore baseSkips inputBy inputOn ligated limit glyphs glyphsOf illShaped badText inputFit inputOf withId recordsOf counted bodyOf firstOf readLookups readBook lookupAt following gained lost grownBy shrunkBy repaired deedBy triedBy recordsBy closed chainRun checkedFirst checkedAll risesTo
 all-cards = refl
 
 pub all-examples : map given examples ≡ map wanted examples

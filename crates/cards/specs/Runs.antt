@@ -11,7 +11,7 @@ use Rattle.matching.specs.declared.InputMatch.{InputMatch}
 use Rattle.matching.specs.Answers.{slotted}
 use Rattle.runs.specs.Run.{Stage}
 use Rattle.nested.specs.declared.Checked.{Checked}
-use Rattle.nested.specs.Calls.{checkedAll, runSays, endingNumber, refusalNumber}
+use Rattle.nested.specs.Calls.{Handed, checkedAll, runSays, endingNumber, refusalNumber}
 use Rattle.cards.specs.Card.{Card}
 use Rattle.cards.specs.Signs.{letter}
 
@@ -38,10 +38,20 @@ shows Checked.Accepted v =
     (endingNumber (v .run .tally .ending) ∷ []) ∷ map (λ (g : Glyph). g .id) (v .run .text .glyphs) ∷ v .level .positions ∷ (v .run .text .cursor ∷ v .run .tally .spent ∷ []) ∷ []
 
 -- record (1, 0) over ids 1, 2, 3, matched whole
+abbrev handed : List ℕ → Handed
+handed ids = record {
+  done = empty;
+  coming = three;
+  place = record { d = 0; idx = cursor };
+  sets = [];
+  book = turning ids;
+  records = 1 ∷ 0 ∷ [];
+  match = matched;
+  given = record { zwnj = false; zwj = false; syllables = false; mask = 1 };
+}
+
 abbrev ran : List ℕ → ℕ → ℕ → List (List ℕ)
-ran ids allowance depth =
-    shows (checkedAll empty three (record { d = 0; idx = cursor }) [] (turning ids) (1 ∷ 0 ∷ []) matched allowance depth)
-    (runSays empty three (record { d = 0; idx = cursor }) [] (turning ids) (1 ∷ 0 ∷ []) matched (record { zwnj = false; zwj = false; syllables = false; mask = 1 }) allowance depth)
+ran ids allowance depth = shows (checkedAll (handed ids) allowance depth) (runSays (handed ids) allowance depth)
 
 abbrev pub k11 : Card
 k11 = record { given = ran (2 ∷ 2 ∷ []) 1 1; wanted = (0 ∷ []) ∷ (1 ∷ 2 ∷ 2 ∷ 3 ∷ []) ∷ (0 ∷ 1 ∷ 2 ∷ 3 ∷ []) ∷ (4 ∷ 1 ∷ []) ∷ [] }

@@ -6,7 +6,7 @@ use runs::Given;
 ghost use mathlib.Core.Path.{_≡_};
 ghost use Rattle.book.specs.Book.{readBook, isRead};
 ghost use Rattle.nested.specs.declared.RunAnswer.{RunAnswer as Answer};
-ghost use Rattle.nested.specs.Calls.{checkedAll, runSays, Said};
+ghost use Rattle.nested.specs.Calls.{Said};
 ghost use Rattle.desk.specs.Runs.{matchFrom, givenFrom, ranOf};
 
 // The three switches and the lookup mask. A run is GSUB.
@@ -50,9 +50,16 @@ pub extern "C" fn cb_run(
     allowance: u32,
     depth: usize,
 ) -> Ran
-    ensures { λ r. ⌜ ((a : Answer) × (Said (checkedAll (now (done .entry)) (now (coming .entry)) (record { d = d; idx = idx }) (now (sets .entry)) (now (book .entry)) (now (records .entry)) (matchFrom matched) allowance depth)
-        (runSays (now (done .entry)) (now (coming .entry)) (record { d = d; idx = idx }) (now (sets .entry)) (now (book .entry)) (now (records .entry)) (matchFrom matched) (givenFrom switches) allowance depth)
-        (now (done .entry)) (now (coming .entry)) (now (done .exit)) (now (coming .exit)) a × (r ≡ ranOf a))) ⌝ }
+    ensures { λ r. ⌜ ((a : Answer) × (Said (record {
+      done = now (done .entry);
+      coming = now (coming .entry);
+      place = record { d = d; idx = idx };
+      sets = now (sets .entry);
+      book = now (book .entry);
+      records = now (records .entry);
+      match = matchFrom matched;
+      given = givenFrom switches;
+    }) allowance depth (now (done .exit)) (now (coming .exit)) a × (r ≡ ranOf a))) ⌝ }
 {
     told(nested::run(
         done,

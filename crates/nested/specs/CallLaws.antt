@@ -39,7 +39,7 @@ use Rattle.nested.specs.declared.Checked.{Checked}
 use Rattle.chains.specs.declared.Closed.{Closed}
 use Rattle.steps.specs.State.{Ran}
 use Rattle.chains.specs.Levels.{Indexed, Chained}
-use Rattle.nested.specs.Calls.{badRecords, checkedFirst, checkedPlaces, checkedMatch, checkedBook, checkedAll, then, risesTo, goodPlaces, refusedBy, Whole, Said}
+use Rattle.nested.specs.Calls.{Handed, badRecords, checkedFirst, checkedPlaces, checkedMatch, checkedBook, checkedAll, then, risesTo, goodPlaces, refusedBy, Whole, SaidBy}
 
 -- ---- places that rise, one a turn
 
@@ -185,13 +185,13 @@ whole-is v done₁ coming₁ done₂ coming₂ r c h k = record {
 
 -- ---- the refusals, by their cases
 
-pub said-whole : (k : Checked) (v : Stage) (done coming done′ coming′ : List ℕ) (r : RunAnswer) → k ≡ Checked.Accepted → Whole v done′ coming′ r → Said k v done coming done′ coming′ r
+pub said-whole : (k : Checked) (v : Stage) (done coming done′ coming′ : List ℕ) (r : RunAnswer) → k ≡ Checked.Accepted → Whole v done′ coming′ r → SaidBy k v done coming done′ coming′ r
 said-whole k v done coming done′ coming′ r e w = rw e w
 
-pub said-same : (k k′ : Checked) (v : Stage) (done coming done′ coming′ : List ℕ) (r : RunAnswer) → k ≡ k′ → Said k′ v done coming done′ coming′ r → Said k v done coming done′ coming′ r
+pub said-same : (k k′ : Checked) (v : Stage) (done coming done′ coming′ : List ℕ) (r : RunAnswer) → k ≡ k′ → SaidBy k′ v done coming done′ coming′ r → SaidBy k v done coming done′ coming′ r
 said-same k k′ v done coming done′ coming′ r e w = rw e w
 
-pub said-refused : (k : Checked) (why : Refusal) (v : Stage) (done coming : List ℕ) (r : RunAnswer) → k ≡ Checked.Refused why → r ≡ refusedBy why → Said k v done coming done coming r
+pub said-refused : (k : Checked) (why : Refusal) (v : Stage) (done coming : List ℕ) (r : RunAnswer) → k ≡ Checked.Refused why → r ≡ refusedBy why → SaidBy k v done coming done coming r
 said-refused k why v done coming r e q = rw e (q, refl, refl)
 
 module _ (idx end total count : ℕ) (places : List ℕ) (a : InputAnswer) (is : a ≡ InputAnswer.Matched end total) where
@@ -238,31 +238,31 @@ not-refused : (b : Bool) (why : Refusal) (rest : Checked) → cond b (Checked.Re
 not-refused true why rest e = absurd (accepted-not why e)
 not-refused false why rest e = (refl, e)
 
-module _ (done coming : List ℕ) (p : Place) (sets book records : List ℕ) (m : InputMatch) (allowance depth : ℕ) where
-  pub all-first : (why : Refusal) → checkedFirst done coming p sets records allowance depth ≡ Checked.Refused why → checkedAll done coming p sets book records m allowance depth ≡ Checked.Refused why
+module _ (h : Handed) (allowance depth : ℕ) where
+  pub all-first : (why : Refusal) → checkedFirst (h .done) (h .coming) (h .place) (h .sets) (h .records) allowance depth ≡ Checked.Refused why → checkedAll h allowance depth ≡ Checked.Refused why
   unfolding checkedAll
   all-first why e = rw e
 
-  module _ (first : checkedFirst done coming p sets records allowance depth ≡ Checked.Accepted) where
-    pub all-book : isRead (readBook book) ≡ false → checkedAll done coming p sets book records m allowance depth ≡ Checked.Refused Book
+  module _ (first : checkedFirst (h .done) (h .coming) (h .place) (h .sets) (h .records) allowance depth ≡ Checked.Accepted) where
+    pub all-book : isRead (readBook (h .book)) ≡ false → checkedAll h allowance depth ≡ Checked.Refused Book
     unfolding checkedAll
     all-book e = rw (first, e)
 
-    pub all-match : isRead (readBook book) ≡ true → checkedAll done coming p sets book records m allowance depth ≡ checkedMatch (p .idx) m
+    pub all-match : isRead (readBook (h .book)) ≡ true → checkedAll h allowance depth ≡ checkedMatch (h .place .idx) (h .match)
     unfolding checkedAll
     all-match e = rw (first, e)
 
     -- what isn't refused by 1, 2 and 12
-    pub first-shows : Fits done coming p × (p .idx < limit) × (allowance ≤ mostAllowance)
+    pub first-shows : Fits (h .done) (h .coming) (h .place) × (h .place .idx < limit) × (allowance ≤ mostAllowance)
     unfolding checkedFirst
     first-shows =
-        let u = unfit done coming p in
-        let o = oddSets sets || badRecords records in
+        let u = unfit (h .done) (h .coming) (h .place) in
+        let o = oddSets (h .sets) || badRecords (h .records) in
         let a = ltb mostAllowance allowance in
         let b = ltb mostDepth depth in
         let last = cond (a || b) (Checked.Refused Limits) Checked.Accepted in
-        let e₁ = not-refused (u || o) Shape (cond (pastEnd p) (Checked.Refused Cursor) last) first in
-        let e₂ = not-refused (pastEnd p) Cursor last (e₁ .1) in
+        let e₁ = not-refused (u || o) Shape (cond (pastEnd (h .place)) (Checked.Refused Cursor) last) first in
+        let e₂ = not-refused (pastEnd (h .place)) Cursor last (e₁ .1) in
         let e₃ = not-refused (a || b) Limits Checked.Accepted (e₂ .1) in
-        let f = fit-exactly done coming p .0 (neither-left u o (e₁ .0), e₂ .0) in
+        let f = fit-exactly (h .done) (h .coming) (h .place) .0 (neither-left u o (e₁ .0), e₂ .0) in
         (f .0, f .1, ltb-false mostAllowance allowance (neither-left a b (e₃ .0)))

@@ -28,6 +28,17 @@ use Rattle.nested.specs.declared.RunEnding.{RunEnding}
 use Rattle.nested.specs.declared.RunAnswer.{RunAnswer}
 use Rattle.nested.specs.declared.Checked.{Checked}
 
+-- what is handed to a run: all but the allowance and the depth
+pub record Handed : Type 0 where
+  pub done : List ℕ
+  pub coming : List ℕ
+  pub place : Place
+  pub sets : List ℕ
+  pub book : List ℕ
+  pub records : List ℕ
+  pub match : InputMatch
+  pub given : Given
+
 -- ---- refusals
 
 -- records that aren't pairs, or over 16 of them
@@ -70,9 +81,10 @@ abbrev pub checkedBook : List ℕ → Checked
 checkedBook book = cond (isRead (readBook book)) Checked.Accepted (Checked.Refused Book)
 
 -- 1, 2, 12, 11, 7, in this order
-unfoldable pub checkedAll : List ℕ → List ℕ → Place → List ℕ → List ℕ → List ℕ → InputMatch → ℕ → ℕ → Checked
-checkedAll done coming p sets book records m allowance depth =
-    then (checkedFirst done coming p sets records allowance depth) (then (checkedBook book) (checkedMatch (p .idx) m))
+unfoldable pub checkedAll : Handed → ℕ → ℕ → Checked
+checkedAll h allowance depth =
+    then (checkedFirst (h .done) (h .coming) (h .place) (h .sets) (h .records) allowance depth)
+    (then (checkedBook (h .book)) (checkedMatch (h .place .idx) (h .match)))
 
 -- ---- the answer
 
@@ -89,15 +101,21 @@ pub record Whole (v : Stage) (done coming : List ℕ) (r : RunAnswer) : Type 0 w
   pub clear : Clear done coming (record { d = r .d; idx = r .idx })
 
 -- the run on the text that the rows hold, with the match's places counted from the text's first glyph
-abbrev pub runSays : List ℕ → List ℕ → Place → List ℕ → List ℕ → List ℕ → InputMatch → Given → ℕ → ℕ → Stage
-runSays done coming p sets book records m given allowance depth =
+abbrev pub runSays : Handed → ℕ → ℕ → Stage
+runSays h allowance depth =
+    let p = h .place in
+    let m = h .match in
     let first = movedLevel (p .idx) (p .d) (take (m .count) (m .positions)) (endOf (m .answer)) in
-    runOn (ruled given sets) (lookupsOf book) depth (recordsOf records) (first .positions) (first .end) allowance (textOf done coming p)
+    runOn (ruled (h .given) (h .sets)) (lookupsOf (h .book)) depth (recordsOf (h .records)) (first .positions) (first .end) allowance (textOf (h .done) (h .coming) p)
 
 -- refused: the number, and no word changed; accepted: what the run on the text says
-abbrev pub Said : Checked → Stage → List ℕ → List ℕ → List ℕ → List ℕ → RunAnswer → Type 0
-Said (Checked.Refused why) v done coming done′ coming′ r = (r ≡ refusedBy why) × (done′ ≡ done) × (coming′ ≡ coming)
-Said Checked.Accepted v done coming done′ coming′ r = Whole v done′ coming′ r
+abbrev pub SaidBy : Checked → Stage → List ℕ → List ℕ → List ℕ → List ℕ → RunAnswer → Type 0
+SaidBy (Checked.Refused why) v done coming done′ coming′ r = (r ≡ refusedBy why) × (done′ ≡ done) × (coming′ ≡ coming)
+SaidBy Checked.Accepted v done coming done′ coming′ r = Whole v done′ coming′ r
+
+-- what a run says of what it is handed: its answer, and both rows afterwards
+abbrev pub Said : Handed → ℕ → ℕ → List ℕ → List ℕ → RunAnswer → Type 0
+Said h allowance depth done coming r = SaidBy (checkedAll h allowance depth) (runSays h allowance depth) (h .done) (h .coming) done coming r
 
 -- ---- this paper's number and values of each answer; a run that is Finished has none, 0 is our choice
 

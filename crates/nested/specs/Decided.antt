@@ -8,7 +8,7 @@ use Rattle.text.specs.Decided.{decided}
 use Rattle.runs.specs.Run.{Stage}
 use Rattle.nested.specs.declared.RunAnswer.{RunAnswer}
 use Rattle.nested.specs.declared.Checked.{Checked}
-use Rattle.nested.specs.Calls.{Whole, Said, refusedBy}
+use Rattle.nested.specs.Calls.{Whole, SaidBy, refusedBy}
 
 -- the same answer and the same rows
 pub record SameRun (done coming : List ℕ) (r : RunAnswer) (done′ coming′ : List ℕ) (r′ : RunAnswer) : Type 0 where
@@ -35,7 +35,7 @@ whole-decided v done coming r done′ coming′ r′ a b a′ b′ w w′ =
 -- two answers to one call
 pub run-decided : (k : Checked) (v : Stage) (done₀ coming₀ done coming : List ℕ) (r : RunAnswer) (done′ coming′ : List ℕ) (r′ : RunAnswer)
     → Small done → Small coming → Small done′ → Small coming′
-    → Said k v done₀ coming₀ done coming r → Said k v done₀ coming₀ done′ coming′ r′ → SameRun done coming r done′ coming′ r′
+    → SaidBy k v done₀ coming₀ done coming r → SaidBy k v done₀ coming₀ done′ coming′ r′ → SameRun done coming r done′ coming′ r′
 run-decided (Checked.Refused why) v done₀ coming₀ done coming r done′ coming′ r′ a b a′ b′ s s′ =
     record { answer = s .0 ∙ sym (s′ .0); done-same = s .1 ∙ sym (s′ .1); coming-same = s .2 ∙ sym (s′ .2) }
 run-decided Checked.Accepted v done₀ coming₀ done coming r done′ coming′ r′ a b a′ b′ s s′ = whole-decided v done coming r done′ coming′ r′ a b a′ b′ s s′

@@ -16,11 +16,11 @@ use Rattle.runs.specs.Met.{Met}
 use Rattle.runs.specs.Promises.{short-exactly}
 use Rattle.runs.specs.Stops.{MetDepth, MetLimit, deep-exactly, full-exactly}
 use Rattle.nested.specs.declared.Checked.{Checked}
-use Rattle.nested.specs.Calls.{Said, endingNumber}
+use Rattle.nested.specs.Calls.{SaidBy, endingNumber, Handed, checkedAll, runSays}
 use Rattle.nested.specs.Lines.{placesOf}
 use Rattle.nested.specs.Table as table
 use Rattle.nested.specs.Replies.{no-values, told-refused, told-ended}
-use Rattle.nested.specs.Handed.{Handed, Left, numberOf, repliesAs, checkedOf, stageOf, Called, runLines, Acceptable}
+use Rattle.nested.specs.Handed.{Left, numberOf, repliesAs, Called, runLines, Acceptable}
 
 -- the level that the match opens on the text that the rows hold, places counted from the text's first glyph
 abbrev pub openedBy : Handed → ℕ → Stage
@@ -52,22 +52,22 @@ pub record Demand1 (h : Handed) (allowance depth : ℕ) (l : Left) : Type 0 wher
 -- ---- a call keeps it
 
 module _ (h : Handed) (a d : ℕ) (l : Left) (c : Called h a d l) where
-  accepted : (checkedOf h a d ≡ Checked.Accepted) ↔ Acceptable h a d
+  accepted : (checkedAll h a d ≡ Checked.Accepted) ↔ Acceptable h a d
   accepted = table.accepted h a d (c .book-words)
 
-  told : (e : Ending) → (numberOf l ≡ endingNumber e) ↔ ((checkedOf h a d ≡ Checked.Accepted) × (stageOf h a d .run .tally .ending ≡ e))
-  told e = told-ended (checkedOf h a d) (stageOf h a d) (h .done) (h .coming) (l .done) (l .coming) (l .answer) e (c .said)
+  told : (e : Ending) → (numberOf l ≡ endingNumber e) ↔ ((checkedAll h a d ≡ Checked.Accepted) × (runSays h a d .run .tally .ending ≡ e))
+  told e = told-ended (checkedAll h a d) (runSays h a d) (h .done) (h .coming) (l .done) (l .coming) (l .answer) e (c .said)
 
-  ends : (e : Ending) {M : Type 0} → (stageOf h a d .run .tally .ending ≡ e) ↔ M → (numberOf l ≡ endingNumber e) ↔ (Acceptable h a d × M)
+  ends : (e : Ending) {M : Type 0} → (runSays h a d .run .tally .ending ≡ e) ↔ M → (numberOf l ≡ endingNumber e) ↔ (Acceptable h a d × M)
   ends e m = (
     λ z. let t = told e .0 z in (accepted .0 (t .0), m .0 (t .1)),
     λ s. told e .1 (accepted .1 (s .0), m .1 (s .1)),
   )
 
-  same-rows : (k : Checked) → Said k (stageOf h a d) (h .done) (h .coming) (l .done) (l .coming) (l .answer) → (n : ℕ) → repliesAs n [] l
+  same-rows : (k : Checked) → SaidBy k (runSays h a d) (h .done) (h .coming) (l .done) (l .coming) (l .answer) → (n : ℕ) → repliesAs n [] l
       → (l .done ≡ h .done) × (l .coming ≡ h .coming)
   same-rows (Checked.Refused why) s n e = (s .1, s .2)
-  same-rows Checked.Accepted s n e = absurd (no-values (stageOf h a d) (l .done) (l .coming) (l .answer) s n e)
+  same-rows Checked.Accepted s n e = absurd (no-values (runSays h a d) (l .done) (l .coming) (l .answer) s n e)
 
   by-ending : (e : Ending) → numberOf l ≡ endingNumber e → (numberOf l ≡ 0) ⊎ ((numberOf l ≡ 8) ⊎ ((numberOf l ≡ 9) ⊎ (numberOf l ≡ 10)))
   by-ending Finished z = inl z
@@ -81,10 +81,10 @@ module _ (h : Handed) (a d : ℕ) (l : Left) (c : Called h a d l) where
       let first = movedLevel (h .place .idx) (h .place .d) (placesOf (h .match)) (endOf (h .match .answer)) in
       let t = textOf (h .done) (h .coming) (h .place) in
       record {
-        refused = λ n. Iff·trans (told-refused (checkedOf h a d) (stageOf h a d) (h .done) (h .coming) (l .done) (l .coming) (l .answer) n (c .said)) (table.refused h a d (c .book-words) n);
-        unchanged = same-rows (checkedOf h a d) (c .said);
+        refused = λ n. Iff·trans (told-refused (checkedAll h a d) (runSays h a d) (h .done) (h .coming) (l .done) (l .coming) (l .answer) n (c .said)) (table.refused h a d (c .book-words) n);
+        unchanged = same-rows (checkedAll h a d) (c .said);
         ended = (
-          λ s. by-ending (stageOf h a d .run .tally .ending) (told (stageOf h a d .run .tally .ending) .1 (accepted .1 s, refl)),
+          λ s. by-ending (runSays h a d .run .tally .ending) (told (runSays h a d .run .tally .ending) .1 (accepted .1 s, refl)),
           ⊎-elim (λ z. accepted .0 (told Finished .0 z .0))
               (⊎-elim (λ z. accepted .0 (told Short .0 z .0)) (⊎-elim (λ z. accepted .0 (told Deep .0 z .0)) (λ z. accepted .0 (told Full .0 z .0)))),
         );

@@ -31,13 +31,13 @@ use Rattle.nested.specs.declared.Refusal.the-variants.{Shape, Cursor, Li
 use Rattle.nested.specs.declared.RunEnding.{RunEnding}
 use Rattle.nested.specs.declared.RunAnswer.{RunAnswer}
 use Rattle.nested.specs.declared.Checked.{Checked}
-use Rattle.nested.specs.Calls.{Said, Whole, endingNumber, refusalNumber, runReply}
+use Rattle.nested.specs.Calls.{SaidBy, Whole, endingNumber, refusalNumber, runReply, Handed, checkedAll, runSays}
 use Rattle.nested.specs.Replies.{refused-reply, ended-number, told-refused}
 use Rattle.nested.specs.Decided.{run-decided}
 use Rattle.nested.specs.CallLaws.{said-whole as said-by}
 use Rattle.nested.specs.Lines.{Limited, Beyond, Legible, placesOf, Usable}
 use Rattle.nested.specs.Table.{refused, accepted, fits-of}
-use Rattle.nested.specs.Handed.{Handed, SameText, Left, numberOf, repliesAs, textAfter, checkedOf, stageOf, Called, Acceptable}
+use Rattle.nested.specs.Handed.{SameText, Left, numberOf, repliesAs, textAfter, Called, Acceptable}
 
 -- the same number and values (spent, d, idx, the count, the positions), all 64 slots, the same text, and every word of both rows
 pub record Same (l l′ : Left) : Type 0 where
@@ -78,7 +78,7 @@ record Ended0 (k : Checked) (v : Stage) (done coming : List ℕ) (r : RunAnswer)
   finished : v .run .tally .ending ≡ Finished
   whole : Whole v done coming r
 
-ended-0 : (k : Checked) (v : Stage) (done₀ coming₀ done coming : List ℕ) (r : RunAnswer) → Said k v done₀ coming₀ done coming r → runReply r .number ≡ 0 → Ended0 k v done coming r
+ended-0 : (k : Checked) (v : Stage) (done₀ coming₀ done coming : List ℕ) (r : RunAnswer) → SaidBy k v done₀ coming₀ done coming r → runReply r .number ≡ 0 → Ended0 k v done coming r
 ended-0 (Checked.Refused why) v done₀ coming₀ done coming r s z = absurd (refusal-not-0 why (sym (ap (λ (x : Reply). x .number) (refused-reply r why (s .0))) ∙ z))
 ended-0 Checked.Accepted v done₀ coming₀ done coming r s z =
     record { taken = refl; finished = finished-by (v .run .tally .ending) (sym (ended-number r (v .run .tally .ending) (s .ending)) ∙ z); whole = s }
@@ -102,27 +102,27 @@ module _ (h : Handed) where
   t = textOf (h .done) (h .coming) (h .place)
 
   -- the same call is accepted with any other allowance and depth within 12's limits
-  still-accepted : Narrow (h .book) → (a d a′ d′ : ℕ) → checkedOf h a d ≡ Checked.Accepted → Limited a′ d′ → checkedOf h a′ d′ ≡ Checked.Accepted
+  still-accepted : Narrow (h .book) → (a d a′ d′ : ℕ) → checkedAll h a d ≡ Checked.Accepted → Limited a′ d′ → checkedAll h a′ d′ ≡ Checked.Accepted
   still-accepted w a d a′ d′ e l =
       let s = accepted h a d w .0 e in
       accepted h a′ d′ w .1 (record { shaped = s .shaped; inside = s .inside; limited = l; legible = s .legible; usable = s .usable })
 
   -- what is said of a call that is accepted
-  said-whole : (a d : ℕ) (l : Left) → Called h a d l → checkedOf h a d ≡ Checked.Accepted → Whole (stageOf h a d) (l .done) (l .coming) (l .answer)
-  said-whole a d l c e = subst (λ (k : Checked). Said k (stageOf h a d) (h .done) (h .coming) (l .done) (l .coming) (l .answer)) e (c .said)
+  said-whole : (a d : ℕ) (l : Left) → Called h a d l → checkedAll h a d ≡ Checked.Accepted → Whole (runSays h a d) (l .done) (l .coming) (l .answer)
+  said-whole a d l c e = subst (λ (k : Checked). SaidBy k (runSays h a d) (h .done) (h .coming) (l .done) (l .coming) (l .answer)) e (c .said)
 
   module _ (a d : ℕ) (l : Left) (c : Called h a d l) where
     module _ (z : numberOf l ≡ 0) where
-      ended : Ended0 (checkedOf h a d) (stageOf h a d) (l .done) (l .coming) (l .answer)
-      ended = ended-0 (checkedOf h a d) (stageOf h a d) (h .done) (h .coming) (l .done) (l .coming) (l .answer) (c .said) z
+      ended : Ended0 (checkedAll h a d) (runSays h a d) (l .done) (l .coming) (l .answer)
+      ended = ended-0 (checkedAll h a d) (runSays h a d) (h .done) (h .coming) (l .done) (l .coming) (l .answer) (c .said) z
 
       same-by : (a′ d′ : ℕ) (l′ : Left) → Called h a′ d′ l′ → a ≤ a′ → d ≤ d′ → Limited a′ d′ → Same l l′
       same-by a′ d′ l′ c′ more deeper lim =
           let w′ = said-whole a′ d′ l′ c′ (still-accepted (c .book-words) a d a′ d′ (ended .taken) lim) in
-          let alike : Alike (stageOf h a′ d′) (stageOf h a d) =
+          let alike : Alike (runSays h a′ d′) (runSays h a d) =
           more-is-same (ruled (h .given) (h .sets)) (lookupsOf (h .book)) (recordsOf (h .records)) (first .positions) (first .end) t d d′ a a′ deeper more (ended .finished) in
-          let s = run-decided Checked.Accepted (stageOf h a d) (h .done) (h .coming) (l .done) (l .coming) (l .answer) (l′ .done) (l′ .coming) (l′ .answer)
-          (c .done-words) (c .coming-words) (c′ .done-words) (c′ .coming-words) (ended .whole) (whole-alike (stageOf h a′ d′) (stageOf h a d) (l′ .done) (l′ .coming) (l′ .answer) alike w′) in
+          let s = run-decided Checked.Accepted (runSays h a d) (h .done) (h .coming) (l .done) (l .coming) (l .answer) (l′ .done) (l′ .coming) (l′ .answer)
+          (c .done-words) (c .coming-words) (c′ .done-words) (c′ .coming-words) (ended .whole) (whole-alike (runSays h a′ d′) (runSays h a d) (l′ .done) (l′ .coming) (l′ .answer) alike w′) in
           record {
             answer = s .answer;
             reply = ap runReply (s .answer);
@@ -135,7 +135,7 @@ module _ (h : Handed) where
       beyond-by a′ d′ l′ c′ b =
           let s = accepted h a d (c .book-words) .0 (ended .taken) in
           let n : Limited a′ d′ → ⊥ = λ m. ⊎-elim (λ k. let o = m .0 in omega arith) (λ k. let o = m .1 in omega arith) b in
-          told-refused (checkedOf h a′ d′) (stageOf h a′ d′) (h .done) (h .coming) (l′ .done) (l′ .coming) (l′ .answer) 12 (c′ .said) .1
+          told-refused (checkedAll h a′ d′) (runSays h a′ d′) (h .done) (h .coming) (l′ .done) (l′ .coming) (l′ .answer) 12 (c′ .said) .1
           (refused h a′ d′ (c .book-words) 12 .1 (inr (s .shaped, inr (s .inside, inl (refl, n)))))
 
       short-by : (a′ : ℕ) (l′ : Left) → Called h a′ d l′ → a′ < l .answer .spent → numberOf l′ ≡ 8
@@ -143,11 +143,11 @@ module _ (h : Handed) where
           let rules = ruled (h .given) (h .sets) in
           let book = lookupsOf (h .book) in
           let records = recordsOf (h .records) in
-          let some : a′ < stageOf h a d .run .tally .spent = omega (arith, ended .whole .spent) in
+          let some : a′ < runSays h a d .run .tally .spent = omega (arith, ended .whole .spent) in
           let few = spent-within rules book records (first .positions) (first .end) t d a in
           let lim = accepted h a d (c .book-words) .0 (ended .taken) .limited in
           let w′ = said-whole a′ d l′ c′ (still-accepted (c .book-words) a d a′ d (ended .taken) (omega (arith, lim .0), lim .1)) in
-          let e : stageOf h a′ d .run .tally .ending ≡ Short = less-is-short rules book records (first .positions) (first .end) t d a a′ (ended .finished) some in
+          let e : runSays h a′ d .run .tally .ending ≡ Short = less-is-short rules book records (first .positions) (first .end) t d a a′ (ended .finished) some in
           ended-number (l′ .answer) Short (w′ .ending ∙ ap RunEnding.Ended e)
 
 -- the number spent is the first value of a reply of 0
@@ -220,7 +220,7 @@ module _ (h h′ : Handed) (s : SameText h h′) (a d : ℕ) (k : Acceptable h a
       }
 
   -- the run is the same
-  same-stage : stageOf h a d ≡ stageOf h′ a d
+  same-stage : runSays h a d ≡ runSays h′ a d
   same-stage =
       let u = k .usable in
       let q = same-place in
@@ -237,7 +237,7 @@ handed-over h h′ s a d l c z =
     let k = accepted h a d (c .book-words) .0 (e .taken) in
     let w = subst Narrow (s .book) (c .book-words) in
     record {
-      said = said-by (checkedOf h′ a d) (stageOf h′ a d) (h′ .done) (h′ .coming) (l .done) (l .coming) (l .answer) (accepted h′ a d w .1 (acceptable-too h h′ s a d k))
+      said = said-by (checkedAll h′ a d) (runSays h′ a d) (h′ .done) (h′ .coming) (l .done) (l .coming) (l .answer) (accepted h′ a d w .1 (acceptable-too h h′ s a d k))
           (subst (λ (v : Stage). Whole v (l .done) (l .coming) (l .answer)) (same-stage h h′ s a d k) (e .whole));
       done-words = c .done-words;
       coming-words = c .coming-words;

@@ -28,11 +28,11 @@ use Rattle.runs.specs.Drawn.{Drawn, Copied, Has, Steady, mask, mask-copied, run
 use Rattle.runs.specs.Promises.{run-good}
 use Rattle.nested.specs.declared.Checked.{Checked}
 use Rattle.chains.specs.Cycle.{book-fair}
-use Rattle.nested.specs.Calls.{Said, Whole}
+use Rattle.nested.specs.Calls.{SaidBy, Whole, Handed, runSays}
 use Rattle.nested.specs.CallLaws.{places-show, moved-rise, index-is}
 use Rattle.nested.specs.Lines.{Usable, placesOf}
 use Rattle.nested.specs.Table.{good-by, reads, accepted, fits-of}
-use Rattle.nested.specs.Handed.{Handed, Left, textAfter, Called, stageOf, Acceptable}
+use Rattle.nested.specs.Handed.{Left, textAfter, Called, Acceptable}
 use Rattle.matching.specs.Answers.{endOf}
 
 fair-of : (book : List ℕ) (given : Given) (sets : List ℕ) → isRead (readBook book) ≡ true → Fair (ruled given sets) (lookupsOf book)
@@ -68,18 +68,18 @@ module _ (h : Handed) where
     fits : Fits (h .done) (h .coming) p
     fits = fits-of h (k .shaped) (k .inside)
 
-    good : Good (p .d) (begun a t) (stageOf h a d)
+    good : Good (p .d) (begun a t) (runSays h a d)
     good =
         let z = sizes (h .done) (h .coming) p fits in
         run-good (ruled (h .given) (h .sets)) (lookupsOf (h .book)) (recordsOf (h .records)) (first .positions) (first .end) t
         (fair-of (h .book) (h .given) (h .sets) (reads (h .book) (c .book-words) (k .legible))) d a (first-sound fits (k .usable)) (omega arith)
 
-    whole : Whole (stageOf h a d) (l .done) (l .coming) (l .answer)
-    whole = subst (λ (k : Checked). Said k (stageOf h a d) (h .done) (h .coming) (l .done) (l .coming) (l .answer)) (accepted h a d (c .book-words) .1 k) (c .said)
+    whole : Whole (runSays h a d) (l .done) (l .coming) (l .answer)
+    whole = subst (λ (k : Checked). SaidBy k (runSays h a d) (h .done) (h .coming) (l .done) (l .coming) (l .answer)) (accepted h a d (c .book-words) .1 k) (c .said)
 
     -- the level that it leaves, over the text that it leaves
-    level-sound : Sound (p .d) (length (textAfter l .glyphs)) (stageOf h a d .level)
-    level-sound = subst (λ (u : Text). Sound (p .d) (length (u .glyphs)) (stageOf h a d .level)) (sym (whole .holds .text)) (good .level)
+    level-sound : Sound (p .d) (length (textAfter l .glyphs)) (runSays h a d .level)
+    level-sound = subst (λ (u : Text). Sound (p .d) (length (u .glyphs)) (runSays h a d .level)) (sym (whole .holds .text)) (good .level)
 
     -- the glyphs before the cursor, the first d of `done`, are those of the text afterwards
     pub run-keeps : take (p .d) (textAfter l .glyphs) ≡ take (p .d) (glyphsOf (h .done))
@@ -93,7 +93,7 @@ module _ (h : Handed) where
     -- they rise from the cursor on, and none is past the text's end
     pub positions-rise : Rises (p .d) (length (textAfter l .glyphs)) (take (l .answer .count) (l .answer .positions))
     positions-rise =
-        let ps : List ℕ = stageOf h a d .level .positions in
+        let ps : List ℕ = runSays h a d .level .positions in
         let e : take (l .answer .count) (l .answer .positions) ≡ ps =
         ap₂ (λ (n : ℕ) (s : List ℕ). take n s) (whole .count) (whole .positions) ∙ take-at ps (replicate (slots - length ps) 0) (length ps) refl in
         rw e (rises-wider (p .d) (length (textAfter l .glyphs)) (omega arith) (level-sound .within) (level-sound .rises))

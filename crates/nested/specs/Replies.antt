@@ -17,7 +17,7 @@ use Rattle.nested.specs.declared.Refusal.the-variants.{Shape, Cursor, Li
 use Rattle.nested.specs.declared.RunEnding.{RunEnding}
 use Rattle.nested.specs.declared.RunAnswer.{RunAnswer}
 use Rattle.nested.specs.declared.Checked.{Checked}
-use Rattle.nested.specs.Calls.{Said, Whole, refusedBy, endingNumber, refusalNumber, checkedNumber, runReply}
+use Rattle.nested.specs.Calls.{SaidBy, Whole, refusedBy, endingNumber, refusalNumber, checkedNumber, runReply}
 
 pub refused-reply : (r : RunAnswer) (why : Refusal) → r ≡ refusedBy why → runReply r ≡ record { number = refusalNumber why; values = [] }
 refused-reply r why q = rw q
@@ -59,7 +59,7 @@ pub no-values : (v : Stage) (done coming : List ℕ) (r : RunAnswer) → Whole v
 no-values v done coming r w n e = let none = ap (λ (x : Reply). length (x .values)) (rw (w .ending) at e) in omega arith
 
 -- a number with no values is a refusal's
-pub told-refused : (k : Checked) (v : Stage) (done coming done′ coming′ : List ℕ) (r : RunAnswer) (n : ℕ) → Said k v done coming done′ coming′ r
+pub told-refused : (k : Checked) (v : Stage) (done coming done′ coming′ : List ℕ) (r : RunAnswer) (n : ℕ) → SaidBy k v done coming done′ coming′ r
     → (runReply r ≡ record { number = n; values = [] }) ↔ (checkedNumber k ≡ some n)
 told-refused (Checked.Refused w) v done coming done′ coming′ r n s = (
   λ e. ap some (ap (λ (x : Reply). x .number) (sym (refused-reply r w (s .0)) ∙ e)),
@@ -68,7 +68,7 @@ told-refused (Checked.Refused w) v done coming done′ coming′ r n s = (
 told-refused Checked.Accepted v done coming done′ coming′ r n s = (λ e. absurd (no-values v done′ coming′ r s n e), λ e. absurd (Option·none-ne-some n e))
 
 -- an ending's number is that ending's
-pub told-ended : (k : Checked) (v : Stage) (done coming done′ coming′ : List ℕ) (r : RunAnswer) (e : Ending) → Said k v done coming done′ coming′ r
+pub told-ended : (k : Checked) (v : Stage) (done coming done′ coming′ : List ℕ) (r : RunAnswer) (e : Ending) → SaidBy k v done coming done′ coming′ r
     → (runReply r .number ≡ endingNumber e) ↔ ((k ≡ Checked.Accepted) × (v .run .tally .ending ≡ e))
 told-ended (Checked.Refused w) v done coming done′ coming′ r e s = (
   λ z.

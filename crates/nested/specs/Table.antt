@@ -26,9 +26,9 @@ use Rattle.book.specs.Encode.{Narrow}
 use Rattle.book.specs.Only.{reads-exactly}
 use Rattle.nested.specs.declared.Refusal.the-variants.{Shape, Cursor, Limits, Book, Match}
 use Rattle.nested.specs.declared.Checked.{Checked}
-use Rattle.nested.specs.Calls.{badRecords, checkedFirst, checkedPlaces, checkedMatch, checkedAll, then, risesTo, goodPlaces, refusalNumber, checkedNumber}
+use Rattle.nested.specs.Calls.{badRecords, checkedFirst, checkedPlaces, checkedMatch, checkedAll, then, risesTo, goodPlaces, refusalNumber, checkedNumber, Handed}
 use Rattle.nested.specs.Lines.{Shaped, Inside, Limited, Legible, placesOf, Usable}
-use Rattle.nested.specs.Handed.{Handed, checkedOf, ShapedOf, runLines, Acceptable}
+use Rattle.nested.specs.Handed.{ShapedOf, runLines, Acceptable}
 use Rattle.nested.specs.CallLaws.{places-show}
 use Rattle.runs.specs.Run.{mostAllowance, mostDepth}
 
@@ -222,20 +222,20 @@ module _ (h : Handed) (allowance depth : ℕ) (w : Narrow (h .book)) where
       ∷ record { test = bad7 (h .place .idx) (h .match); line = record { number = 7; lets = Usable (h .place .idx) (h .match) }; tells = usable (h .place .idx) (h .match) }
       ∷ []
 
-  first : checkedNumber (checkedOf h allowance depth) ≡ firstOf (testsOf tests)
+  first : checkedNumber (checkedAll h allowance depth) ≡ firstOf (testsOf tests)
   unfolding checkedAll checkedFirst firstOf
   first =
       in-order (bad1 (h .done) (h .coming) (h .place) (h .sets) (h .records)) (pastEnd (h .place)) (bad12 allowance depth) (isRead (readBook (h .book))) (bad7 (h .place .idx) (h .match))
       (checkedMatch (h .place .idx) (h .match)) (number-7 (h .place .idx) (h .match))
 
   -- refused by the first line that refuses
-  pub refused : (n : ℕ) → (checkedNumber (checkedOf h allowance depth) ≡ some n) ↔ RefusedBy n (runLines h allowance depth)
+  pub refused : (n : ℕ) → (checkedNumber (checkedAll h allowance depth) ≡ some n) ↔ RefusedBy n (runLines h allowance depth)
   refused n = let t = refused-exactly tests n in (λ e. t .0 (sym first ∙ e), λ r. first ∙ t .1 r)
 
   -- and by none exactly when each lets pass
-  pub accepted : (checkedOf h allowance depth ≡ Checked.Accepted) ↔ Acceptable h allowance depth
+  pub accepted : (checkedAll h allowance depth ≡ Checked.Accepted) ↔ Acceptable h allowance depth
   accepted =
-      let k = accepted-by (checkedOf h allowance depth) in
+      let k = accepted-by (checkedAll h allowance depth) in
       let t = through-exactly tests in (
         λ e. let s = t .0 (sym first ∙ k .0 e) in record { shaped = s .0; inside = s .1 .0; limited = s .1 .1 .0; legible = s .1 .1 .1 .0; usable = s .1 .1 .1 .1 .0 },
         λ s. k .1 (first ∙ t .1 (s .shaped, (s .inside, (s .limited, (s .legible, (s .usable, tt)))))),

@@ -15,7 +15,7 @@ ghost use Rattle.runs.specs.Run.{begun, chainRun, mostAllowance};
 ghost use Rattle.runs.specs.Deeds.{ruled};
 ghost use Rattle.levels.specs.Slots.{levelOf, Neat};
 ghost use Rattle.chains.specs.Levels.{Indexed};
-ghost use Rattle.nested.specs.Calls.{badRecords, checkedFirst, checkedMatch, checkedAll, risesTo, goodPlaces, refusedBy, Whole, runSays, Said};
+ghost use Rattle.nested.specs.Calls.{badRecords, checkedFirst, checkedMatch, risesTo, goodPlaces, refusedBy, Whole, runSays, SaidBy, Said};
 ghost use Rattle.runs.specs.Repair.{Sound};
 
 // Allowance and depth of a run, at most.
@@ -70,9 +70,16 @@ pub fn run(
     allowance: u32,
     depth: usize,
 ) -> RunAnswer
-    ensures { λ r. ⌜ Said (checkedAll (now (done .entry)) (now (coming .entry)) (record { d = d; idx = idx }) (now (sets .entry)) (now (book .entry)) (now (records .entry)) matched allowance depth)
-        (runSays (now (done .entry)) (now (coming .entry)) (record { d = d; idx = idx }) (now (sets .entry)) (now (book .entry)) (now (records .entry)) matched given allowance depth)
-        (now (done .entry)) (now (coming .entry)) (now (done .exit)) (now (coming .exit)) r ⌝ }
+    ensures { λ r. ⌜ Said (record {
+      done = now (done .entry);
+      coming = now (coming .entry);
+      place = record { d = d; idx = idx };
+      sets = now (sets .entry);
+      book = now (book .entry);
+      records = now (records .entry);
+      match = matched;
+      given = given;
+    }) allowance depth (now (done .exit)) (now (coming .exit)) r ⌝ }
 {
     let place = Place { d, idx };
     match check(done, coming, place, sets, records, allowance, depth) {
@@ -163,8 +170,16 @@ fn apply(
     depth: usize,
 ) -> RunAnswer
     requires { ⌜ Indexed (now book) (now starts) count × Fits (now done) (now coming) place × (place .idx < limit) × (allowance ≤ mostAllowance) ⌝ }
-    ensures { λ r. ⌜ Said (checkedMatch (place .idx) matched)
-        (runSays (now (done .entry)) (now (coming .entry)) place (now (sets .entry)) (now (book .entry)) (now (records .entry)) matched given allowance depth)
+    ensures { λ r. ⌜ SaidBy (checkedMatch (place .idx) matched) (runSays (record {
+      done = now (done .entry);
+      coming = now (coming .entry);
+      place = place;
+      sets = now (sets .entry);
+      book = now (book .entry);
+      records = now (records .entry);
+      match = matched;
+      given = given;
+    }) allowance depth)
         (now (done .entry)) (now (coming .entry)) (now (done .exit)) (now (coming .exit)) r ⌝ }
 {
     let answer = matched.answer;

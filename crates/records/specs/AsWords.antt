@@ -7,7 +7,7 @@ use Rattle.text.specs.declared.Place.{Place}
 use Rattle.matching.specs.declared.InputMatch.{InputMatch}
 use Rattle.runs.specs.declared.Given.{Given}
 use Rattle.nested.specs.declared.RunAnswer.{RunAnswer}
-use Rattle.nested.specs.Calls.{checkedAll, runSays}
+use Rattle.nested.specs.Calls.{Handed, checkedAll, runSays}
 use Rattle.nested.specs.Decided.{SameRun, run-decided}
 use Rattle.records.specs.declared.Record.{Record}
 use Rattle.records.specs.Records.{wordsOf}
@@ -20,6 +20,6 @@ module _ (done coming : List ℕ) (place : Place) (sets book : List ℕ) (m : In
       → SaidOf done coming place sets book m given allowance depth done″ coming″ r′ words
       → SameRun done′ coming′ r done″ coming″ r′
   as-the-words rs words e done′ coming′ r done″ coming″ r′ a b a′ b′ structs as-words =
-      run-decided (checkedAll done coming place sets book (wordsOf rs) m allowance depth) (runSays done coming place sets book (wordsOf rs) m given allowance depth)
-      done coming done′ coming′ r done″ coming″ r′ a b a′ b′ structs
+      let h : Handed = record { done = done; coming = coming; place = place; sets = sets; book = book; records = wordsOf rs; match = m; given = given } in
+      run-decided (checkedAll h allowance depth) (runSays h allowance depth) done coming done′ coming′ r done″ coming″ r′ a b a′ b′ structs
       (subst (SaidOf done coming place sets book m given allowance depth done″ coming″ r′) e as-words)

@@ -18,7 +18,7 @@ use Rattle.runs.specs.Run.{Stage}
 use Rattle.nested.specs.declared.Refusal.the-variants.{Shape}
 use Rattle.nested.specs.declared.RunAnswer.{RunAnswer}
 use Rattle.nested.specs.declared.Checked.{Checked}
-use Rattle.nested.specs.Calls.{badRecords, checkedFirst, checkedAll, runSays, Said}
+use Rattle.nested.specs.Calls.{Handed, badRecords, checkedFirst, checkedAll, SaidBy, Said}
 use Rattle.records.specs.declared.Record.{Record}
 use Rattle.records.specs.declared.Pairs.{Pairs}
 use Rattle.records.specs.Records.{wordsOf, meant, mostKept, kept, none, empty, added, Filled}
@@ -104,10 +104,9 @@ or-true true = refl
 or-true false = refl
 
 -- over 16 records is 1, whatever else is wrong
-module _ (done coming : List ℕ) (place : Place) (sets book : List ℕ) (m : InputMatch) (allowance depth : ℕ) where
-  many-refused : (words : List ℕ) → 2 * mostRecords < length words → checkedAll done coming place sets book words m allowance depth ≡ Checked.Refused Shape
-  unfolding checkedAll checkedFirst
-  many-refused words h = rw (lt-ltb (2 * mostRecords) (length words) h, or-true, or-true, or-true)
+many-refused : (h : Handed) (allowance depth : ℕ) → 2 * mostRecords < length (h .records) → checkedAll h allowance depth ≡ Checked.Refused Shape
+unfolding checkedAll checkedFirst
+many-refused h allowance depth l = rw (lt-ltb (2 * mostRecords) (length (h .records)) l, or-true, or-true, or-true)
 
 -- of the records that are kept no more is asked than an array holds
 pub filled-fits : (rs : List Record) (p : Pairs) → Filled (take (kept (length rs)) rs) p → (p .n ≤ mostKept) × (length (p .words) ≡ 2 * mostKept)
@@ -115,15 +114,17 @@ filled-fits rs p f = let k = kept-few (length rs) in (omega (arith, f .number, l
 
 module _ (done coming : List ℕ) (place : Place) (sets book : List ℕ) (m : InputMatch) (given : Given) (allowance depth : ℕ) (done′ coming′ : List ℕ) (r : RunAnswer) where
   -- what the run on these words says
+  abbrev with : List ℕ → Handed
+  with words =
+      record { done = done; coming = coming; place = place; sets = sets; book = book; records = words; match = m; given = given }
+
   abbrev pub SaidOf : List ℕ → Type 0
-  SaidOf words =
-      Said (checkedAll done coming place sets book words m allowance depth) (runSays done coming place sets book words m given allowance depth)
-      done coming done′ coming′ r
+  SaidOf words = Said (with words) allowance depth done′ coming′ r
 
   -- two refusals by 1 say the same, whatever the runs would be
-  refused-same : (v v′ : Stage) (c c′ : Checked) → c ≡ Checked.Refused Shape → c′ ≡ Checked.Refused Shape → Said c v done coming done′ coming′ r → Said c′ v′ done coming done′ coming′ r
+  refused-same : (v v′ : Stage) (c c′ : Checked) → c ≡ Checked.Refused Shape → c′ ≡ Checked.Refused Shape → SaidBy c v done coming done′ coming′ r → SaidBy c′ v′ done coming done′ coming′ r
   refused-same v v′ c c′ e e′ said =
-      subst (λ (k : Checked). Said k v′ done coming done′ coming′ r) (sym e′) (subst (λ (k : Checked). Said k v done coming done′ coming′ r) e said)
+      subst (λ (k : Checked). SaidBy k v′ done coming done′ coming′ r) (sym e′) (subst (λ (k : Checked). SaidBy k v done coming done′ coming′ r) e said)
 
   -- the records that are kept are refused by 1, or run, as the whole list
   pub said-kept : (rs : List Record) → SaidOf (wordsOf (take (kept (length rs)) rs)) → SaidOf (wordsOf rs)
@@ -134,8 +135,8 @@ module _ (done coming : List ℕ) (place : Place) (sets book : List ℕ) (m : In
       by-test true e said =
           let h : mostKept ≤ length rs = leb-true mostKept (length rs) e in
           refused-same _ _ _ _
-          (many-refused done coming place sets book m allowance depth (wordsOf (take mostKept rs)) (omega (arith, words-length (take mostKept rs), length-take-le mostKept rs h)))
-          (many-refused done coming place sets book m allowance depth (wordsOf rs) (omega (arith, words-length rs)))
+          (many-refused (with (wordsOf (take mostKept rs))) allowance depth (omega (arith, words-length (take mostKept rs), length-take-le mostKept rs h)))
+          (many-refused (with (wordsOf rs)) allowance depth (omega (arith, words-length rs)))
           said
       by-test false e said = subst (λ (l : List Record). SaidOf (wordsOf l)) (take-length rs) said
 

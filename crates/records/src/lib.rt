@@ -5,7 +5,7 @@ use runs::Given;
 ghost use mathlib.Core.Path.{_≡_};
 ghost use Prim.Native.Nat.{_*_, _<_, _≤_};
 ghost use lib.ListN.{length, getD, take};
-ghost use Rattle.nested.specs.Calls.{checkedAll, runSays, Said};
+ghost use Rattle.nested.specs.Calls.{Said};
 ghost use Rattle.records.specs.Records.{wordsOf, mostKept, kept, none, empty, added, Filled};
 
 // Which position of the match, and which lookup of the book.
@@ -31,9 +31,16 @@ pub fn run(
     allowance: u32,
     depth: usize,
 ) -> RunAnswer
-    ensures { λ r. ⌜ Said (checkedAll (now (done .entry)) (now (coming .entry)) (record { d = d; idx = idx }) (now (sets .entry)) (now (book .entry)) (wordsOf (now (records .entry))) matched allowance depth)
-        (runSays (now (done .entry)) (now (coming .entry)) (record { d = d; idx = idx }) (now (sets .entry)) (now (book .entry)) (wordsOf (now (records .entry))) matched given allowance depth)
-        (now (done .entry)) (now (coming .entry)) (now (done .exit)) (now (coming .exit)) r ⌝ }
+    ensures { λ r. ⌜ Said (record {
+      done = now (done .entry);
+      coming = now (coming .entry);
+      place = record { d = d; idx = idx };
+      sets = now (sets .entry);
+      book = now (book .entry);
+      records = wordsOf (now (records .entry));
+      match = matched;
+      given = given;
+    }) allowance depth (now (done .exit)) (now (coming .exit)) r ⌝ }
 {
     let pairs = pairs_of(records);
     run_pairs(
@@ -72,9 +79,16 @@ fn run_pairs(
     depth: usize,
 ) -> RunAnswer
     requires { ⌜ (pairs .n ≤ mostKept) × (length (pairs .words) ≡ 2 * mostKept) ⌝ }
-    ensures { λ r. ⌜ Said (checkedAll (now (done .entry)) (now (coming .entry)) (record { d = d; idx = idx }) (now (sets .entry)) (now (book .entry)) (take (2 * pairs .n) (pairs .words)) matched allowance depth)
-        (runSays (now (done .entry)) (now (coming .entry)) (record { d = d; idx = idx }) (now (sets .entry)) (now (book .entry)) (take (2 * pairs .n) (pairs .words)) matched given allowance depth)
-        (now (done .entry)) (now (coming .entry)) (now (done .exit)) (now (coming .exit)) r ⌝ }
+    ensures { λ r. ⌜ Said (record {
+      done = now (done .entry);
+      coming = now (coming .entry);
+      place = record { d = d; idx = idx };
+      sets = now (sets .entry);
+      book = now (book .entry);
+      records = take (2 * pairs .n) (pairs .words);
+      match = matched;
+      given = given;
+    }) allowance depth (now (done .exit)) (now (coming .exit)) r ⌝ }
 {
     let words = pairs.words;
     let n = pairs.n;

@@ -199,7 +199,7 @@ chain-loop-again t c =
       l .inv .2,
       still-able (a .given) (a .sets .now) ws (l .inv .2) (a .depth) r (l .done) (l .coming) (l .st) (l .lv) done₂ coming₂ s₂ lv₂ (l .inv .3) e n f,
       records-turn (a .given) (a .sets .now) ws (a .depth) (a .recs .now) (l .i) (stageOf (l .done) (l .coming) (l .st) (l .lv)) (stageOf done₂ coming₂ s₂ lv₂) lt e
-      ∙ l .inv .4,
+          ∙ l .inv .4,
       omega arith,
     ) in
     ⊎-elim

@@ -4,10 +4,24 @@ use borrow.Author.Tests.{not-true, not-false}
 use Rattle.book.specs.declared.Index.{Index}
 use Rattle.nested.specs.declared.Refusal.the-variants.{Book}
 use Rattle.book.specs.Starts.{index-reads}
+use Rattle.nested.specs.Calls.{Handed}
 use Rattle.nested.specs.CallLaws.{said-refused, said-same, all-first, all-book, all-match, first-shows, index-is}
 use borrow.Author.Needs.{needs}
 use Rattle.nested.proofs.run.Statement.{statement}
 use Rattle.nested.proofs.run.Tie as tie
+
+-- what the run is handed
+abbrev handed : tie.Start → Handed
+handed s = let a = s .args in record {
+  done = a .done .now;
+  coming = a .coming .now;
+  place = record { d = a .d; idx = a .idx };
+  sets = a .sets .now;
+  book = a .book .now;
+  records = a .records .now;
+  match = a .matched;
+  given = a .given;
+}
 
 check-requires : tie.Need-check-requires
 check-requires c κs = search needs
@@ -25,7 +39,7 @@ same-length-2 : tie.Need-same-length-2
 same-length-2 c = search needs
 
 returns : tie.Need-returns
-returns c = let a = c .before .before .before .before .before .before .before .before .before .before .before .before .args in said-refused _ (c .before .before .why .given .0 .0) _ (a .done .now) (a .coming .now) (c .refuse .result) (all-first (a .done .now) (a .coming .now) (record { d = a .d; idx = a .idx }) (a .sets .now) (a .book .now) (a .records .now) (a .matched) (a .allowance) (a .depth) (c .before .before .why .given .0 .0) (sym (c .before .before .before .before .check .ensures) ∙ c .before .before .why .given .1)) (c .refuse .ensures)
+returns c = let s = c .before .before .before .before .before .before .before .before .before .before .before .before in let a = s .args in said-refused _ (c .before .before .why .given .0 .0) _ (a .done .now) (a .coming .now) (c .refuse .result) (all-first (handed s) (a .allowance) (a .depth) (c .before .before .why .given .0 .0) (sym (c .before .before .before .before .check .ensures) ∙ c .before .before .why .given .1)) (c .refuse .ensures)
 
 enum-told : tie.Need-enum-told
 enum-told c = search needs
@@ -43,10 +57,10 @@ same-length-4 : tie.Need-same-length-4
 same-length-4 c = search needs
 
 returns-2 : tie.Need-returns-2
-returns-2 c = let a = c .before .before .before .before .before .before .before .before .before .before .before .before .before .args in said-refused _ Book _ (a .done .now) (a .coming .now) (c .refuse2 .result) (all-book (a .done .now) (a .coming .now) (record { d = a .d; idx = a .idx }) (a .sets .now) (a .book .now) (a .records .now) (a .matched) (a .allowance) (a .depth) (sym (c .before .before .before .before .before .check .ensures) ∙ c .before .before .before .enum-told .given .1) (sym (index-reads (a .book .now)) ∙ ap (λ (x : Index). x .reads) (sym (c .before .before .index-of .ensures)) ∙ not-true _ (c .before .if1 .taken))) (c .refuse2 .ensures)
+returns-2 c = let s = c .before .before .before .before .before .before .before .before .before .before .before .before .before in let a = s .args in said-refused _ Book _ (a .done .now) (a .coming .now) (c .refuse2 .result) (all-book (handed s) (a .allowance) (a .depth) (sym (c .before .before .before .before .before .check .ensures) ∙ c .before .before .before .enum-told .given .1) (sym (index-reads (a .book .now)) ∙ ap (λ (x : Index). x .reads) (sym (c .before .before .index-of .ensures)) ∙ not-true _ (c .before .if1 .taken))) (c .refuse2 .ensures)
 
 apply-requires : tie.Need-apply-requires
-apply-requires c κs = let a = c .before .before .before .before .before .before .before .before .before .before .before .before .before .before .before .before .args in let f = first-shows (a .done .now) (a .coming .now) (record { d = a .d; idx = a .idx }) (a .sets .now) (a .book .now) (a .records .now) (a .matched) (a .allowance) (a .depth) (sym (c .before .before .before .before .before .before .before .before .check .ensures) ∙ c .before .before .before .before .before .before .enum-told .given .1) in (index-is (a .book .now) (c .before .before .before .before .before .index-of .result) (c .before .before .before .before .before .index-of .ensures) (not-false _ (c .before .before .before .before .if1 .left)), f .0, f .1, f .2)
+apply-requires c κs = let s = c .before .before .before .before .before .before .before .before .before .before .before .before .before .before .before .before in let a = s .args in let f = first-shows (handed s) (a .allowance) (a .depth) (sym (c .before .before .before .before .before .before .before .before .check .ensures) ∙ c .before .before .before .before .before .before .enum-told .given .1) in (index-is (a .book .now) (c .before .before .before .before .before .index-of .result) (c .before .before .before .before .before .index-of .ensures) (not-false _ (c .before .before .before .before .if1 .left)), f .0, f .1, f .2)
 
 same-length-5 : tie.Need-same-length-5
 same-length-5 c = search needs
@@ -55,7 +69,7 @@ same-length-6 : tie.Need-same-length-6
 same-length-6 c = search needs
 
 returns-3 : tie.Need-returns-3
-returns-3 c = let a = c .before .before .before .before .before .before .before .before .before .before .before .before .before .before .before .before .before .before .before .before .before .args in let g = c .before .before .before .before .apply in said-same _ _ _ (a .done .now) (a .coming .now) (g .last .0) (g .last .1 .0) (g .result) (all-match (a .done .now) (a .coming .now) (record { d = a .d; idx = a .idx }) (a .sets .now) (a .book .now) (a .records .now) (a .matched) (a .allowance) (a .depth) (sym (c .before .before .before .before .before .before .before .before .before .before .before .before .before .check .ensures) ∙ c .before .before .before .before .before .before .before .before .before .before .before .enum-told .given .1) (sym (index-reads (a .book .now)) ∙ ap (λ (x : Index). x .reads) (sym (c .before .before .before .before .before .before .before .before .before .before .index-of .ensures)) ∙ not-false _ (c .before .before .before .before .before .before .before .before .before .if1 .left))) (g .ensures)
+returns-3 c = let s = c .before .before .before .before .before .before .before .before .before .before .before .before .before .before .before .before .before .before .before .before .before in let a = s .args in let g = c .before .before .before .before .apply in said-same _ _ _ (a .done .now) (a .coming .now) (g .last .0) (g .last .1 .0) (g .result) (all-match (handed s) (a .allowance) (a .depth) (sym (c .before .before .before .before .before .before .before .before .before .before .before .before .before .check .ensures) ∙ c .before .before .before .before .before .before .before .before .before .before .before .enum-told .given .1) (sym (index-reads (a .book .now)) ∙ ap (λ (x : Index). x .reads) (sym (c .before .before .before .before .before .before .before .before .before .before .index-of .ensures)) ∙ not-false _ (c .before .before .before .before .before .before .before .before .before .if1 .left))) (g .ensures)
 
 pub run-spec : {M : Type 1} → statement M
 run-spec =
