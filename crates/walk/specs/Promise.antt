@@ -7,6 +7,7 @@ use mathlib.Core.Logic.{_↔_, _⊎_}
 use lib.ListN.{length}
 use Rattle.glyph.specs.Glyph.{limit, Row, glyphsOf}
 use Rattle.glyph.specs.Reply.{Reply}
+use Rattle.glyph.specs.Order.{Line, RefusedBy}
 use Rattle.verdict.specs.declared.Matcher.{Matcher}
 use Rattle.verdict.specs.declared.Verdict.{Verdict}
 use Rattle.verdict.specs.Verdict.{Asked, judgeAt}
@@ -25,20 +26,24 @@ pub record Walkable (row : List ℕ) (len place : ℕ) (sets : List ℕ) : Type 
   pub place-inside : place ≤ len
   pub sets-paired : length sets % 2 ≡ 0
 
+-- a walk's one line
+abbrev pub walkLines : List ℕ → ℕ → ℕ → List ℕ → List Line
+walkLines row len place sets = record { number = 1; lets = Walkable row len place sets } ∷ []
+
 module _ (row : List ℕ) where
   abbrev pub rowJudge : Matcher → Asked → ℕ → List ℕ → ℕ → Verdict
   rowJudge m sign syllable sets = judgeAt m sign syllable sets (glyphsOf row)
 
   -- forward from a place: the next glyph tested is one later
   pub record ForwardPromise (len place : ℕ) (m : Matcher) (sign : Asked) (syllable : ℕ) (sets : List ℕ) (answer : Walked) : Type 0 where
-    pub refused-1 : (walkReply answer ≡ replies 1 []) ↔ (Walkable row len place sets → ⊥)
+    pub refused : (n : ℕ) → (walkReply answer ≡ replies n []) ↔ RefusedBy n (walkLines row len place sets)
     pub found-0 : (q : ℕ) → (walkReply answer ≡ replies 0 (q ∷ [])) ↔ (Walkable row len place sets × Finds (rowJudge m sign syllable sets) len (place + 1) q)
     pub lost-4 : (extent : ℕ) → (walkReply answer ≡ replies 4 (extent ∷ []))
         ↔ (Walkable row len place sets × (Stops (rowJudge m sign syllable sets) len (place + 1) extent ⊎ RunsOut (rowJudge m sign syllable sets) len (place + 1) extent))
 
   -- backward: every glyph of the row counts
   pub record BackwardPromise (place : ℕ) (m : Matcher) (sign : Asked) (syllable : ℕ) (sets : List ℕ) (answer : Walked) : Type 0 where
-    pub refused-1 : (walkReply answer ≡ replies 1 []) ↔ (Walkable row (length (glyphsOf row)) place sets → ⊥)
+    pub refused : (n : ℕ) → (walkReply answer ≡ replies n []) ↔ RefusedBy n (walkLines row (length (glyphsOf row)) place sets)
     pub found-0 : (q : ℕ) → (walkReply answer ≡ replies 0 (q ∷ [])) ↔ (Walkable row (length (glyphsOf row)) place sets × FindsBack (rowJudge m sign syllable sets) place q)
     pub lost-4 : (extent : ℕ) → (walkReply answer ≡ replies 4 (extent ∷ []))
         ↔ (Walkable row (length (glyphsOf row)) place sets × (StopsBack (rowJudge m sign syllable sets) place extent ⊎ RunsOutBack (rowJudge m sign syllable sets) place extent))

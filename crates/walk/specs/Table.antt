@@ -1,18 +1,20 @@
--- The two calls keep what a walk promises. A walk is refused exactly when 01's line 1 holds, by its test; and a reply tells the case that it is of.
-use Prim.Native.Nat.{ℕ, _+_, _%_}
+-- The two calls keep what a walk promises. The code's test tells 01's line 1, so a walk is refused by it exactly where it doesn't let pass
+-- (Order); and a reply tells the case that it is of.
+use Prim.Native.Nat.{ℕ, _+_}
 use mathlib.Core.Path.{_≡_, refl, sym, ap, _∙_}
 use mathlib.Core.List.{List, [], _∷_}
-use mathlib.Core.Logic.{_↔_, _⊎_, inl, inr, ⊎-elim}
+use mathlib.Core.Logic.{_↔_, Iff·trans, _⊎_, inl, inr, ⊎-elim}
+use mathlib.Core.Option.{some, Option·some-inj, Option·none-ne-some}
 use mathlib.Core.Bool.{Bool, true, false, _||_, true≢false}
 use native.Mathlib.Omega.{arith}
-use borrow.Author.Tests.{ltb-false, le-ltb, eqb-true, eq-eqb, not-false}
-use lib.Dec.{eqb, ltb}
+use lib.Dec.{ltb}
 use lib.ListN.{length}
 use Rattle.glyph.specs.Glyph.{glyphsOf, illShaped}
 use Rattle.glyph.specs.Laws.{well-shaped}
 use Rattle.glyph.specs.Sets.{oddSets}
 use Rattle.glyph.specs.Reply.{Reply}
-use Rattle.bits.specs.Laws.{neither-left, neither-right}
+use Rattle.glyph.specs.Order.{firstOf, RefusedBy, refused-exactly}
+use Rattle.glyph.specs.Tests.{both, over, paired}
 use Rattle.verdict.specs.declared.Matcher.{Matcher}
 use Rattle.verdict.specs.Verdict.{Asked, judgeAt}
 use Rattle.walk.specs.declared.Walked.{Walked}
@@ -22,67 +24,42 @@ use Rattle.walk.specs.Means.{Means, MeansBack}
 use Rattle.walk.specs.Promise.{Walkable, replies, ForwardPromise, BackwardPromise}
 use Rattle.walk.specs.Accepted.{forward-refused, backward-refused, forward-means, backward-means}
 
-module _ (row : List ℕ) (len place : ℕ) (sets : List ℕ) where
-  walkable : badWalk row len place sets ≡ false → Walkable row len place sets
-  unfolding badWalk
-  walkable e =
-      let shape = illShaped row in
-      let past = ltb (length (glyphsOf row)) len in
-      let e₃ = neither-left ((shape || past) || ltb len place) (oddSets sets) e in
-      let e₂ = neither-left (shape || past) (ltb len place) e₃ in
-      let w = well-shaped row .0 (neither-left shape past e₂) in
-      record {
-        row-whole = w .0;
-        row-short = w .1;
-        len-inside = ltb-false (length (glyphsOf row)) len (neither-right shape past e₂);
-        place-inside = ltb-false len place (neither-right (shape || past) (ltb len place) e₃);
-        sets-paired = eqb-true (length sets % 2) 0 (not-false (eqb (length sets % 2) 0) (neither-right ((shape || past) || ltb len place) (oddSets sets) e));
-      }
+walkable : (row : List ℕ) (len place : ℕ) (sets : List ℕ) → (badWalk row len place sets ≡ false) ↔ Walkable row len place sets
+unfolding badWalk
+walkable row len place sets =
+    let a = illShaped row in
+    let b = ltb (length (glyphsOf row)) len in
+    let c = ltb len place in
+    let t₁ = both a b (well-shaped row) (over (length (glyphsOf row)) len) in
+    let t₂ = both (a || b) c t₁ (over len place) in
+    let t = both ((a || b) || c) (oddSets sets) t₂ (paired sets) in (
+      λ q. let h = t .0 q in record {
+        row-whole = h .0 .0 .0 .0;
+        row-short = h .0 .0 .0 .1;
+        len-inside = h .0 .0 .1;
+        place-inside = h .0 .1;
+        sets-paired = h .1;
+      },
+      λ w. t .1 ((((w .row-whole, w .row-short), w .len-inside), w .place-inside), w .sets-paired),
+    )
 
-  passes : Walkable row len place sets → badWalk row len place sets ≡ false
-  unfolding badWalk
-  passes w =
-      rw (
-        well-shaped row .1 (w .row-whole, w .row-short),
-        le-ltb (length (glyphsOf row)) len (w .len-inside),
-        le-ltb len place (w .place-inside),
-        eq-eqb (length sets % 2) 0 (w .sets-paired),
-      )
+-- ---- refused
 
-  pub good-exactly : (badWalk row len place sets ≡ false) ↔ Walkable row len place sets
-  good-exactly = (walkable, passes)
+-- each other answer has a value
+bare : (w : Walked) (n : ℕ) → walkReply w ≡ replies n [] → w ≡ Refused
+bare (Found p) n e = let z = ap (λ (r : Reply). length (r .values)) e in absurd (omega arith)
+bare (Stopped x) n e = let z = ap (λ (r : Reply). length (r .values)) e in absurd (omega arith)
+bare (RanOut x) n e = let z = ap (λ (r : Reply). length (r .values)) e in absurd (omega arith)
+bare Refused n e = refl
 
-  bad-exactly : (badWalk row len place sets ≡ true) ↔ (Walkable row len place sets → ⊥)
-  bad-exactly = (λ e w. true≢false (sym e ∙ passes w), by (badWalk row len place sets) refl)
-    where
-      by : (b : Bool) → badWalk row len place sets ≡ b → (Walkable row len place sets → ⊥) → badWalk row len place sets ≡ true
-      by true e n = e
-      by false e n = absurd (n (walkable e))
-
--- the number 1 is a refusal's alone
-replies-1 : (w : Walked) → (walkReply w ≡ replies 1 []) ↔ (w ≡ Refused)
-replies-1 (Found p) = (λ e. let z : _≡_ {A = ℕ} 0 1 = ap (λ (r : Reply). r .number) e in absurd (omega arith), λ e. let z : _≡_ {A = ℕ} 0 1 = cc in absurd (omega arith))
-replies-1 (Stopped x) = (λ e. let z : _≡_ {A = ℕ} 4 1 = ap (λ (r : Reply). r .number) e in absurd (omega arith), λ e. let z : _≡_ {A = ℕ} 0 1 = cc in absurd (omega arith))
-replies-1 (RanOut x) = (λ e. let z : _≡_ {A = ℕ} 4 1 = ap (λ (r : Reply). r .number) e in absurd (omega arith), λ e. let z : _≡_ {A = ℕ} 0 1 = cc in absurd (omega arith))
-replies-1 Refused = (λ e. refl, λ e. refl)
-
-module _ (row : List ℕ) (m : Matcher) (sign : Asked) (syllable : ℕ) (sets : List ℕ) where
-  forward-refused-1 : (len place : ℕ)
-      → (walkReply (forwardOf row len place m sign syllable sets) ≡ replies 1 []) ↔ (Walkable row len place sets → ⊥)
-  forward-refused-1 len place =
-      let a = replies-1 (forwardOf row len place m sign syllable sets) in
-      let b = forward-refused row m sign syllable sets len place in
-      let c = bad-exactly row len place sets in
-      (λ e. c .0 (b .0 (a .0 e)), λ n. a .1 (b .1 (c .1 n)))
-
-  -- every glyph of the row counts
-  backward-refused-1 : (place : ℕ)
-      → (walkReply (backwardOf row place m sign syllable sets) ≡ replies 1 []) ↔ (Walkable row (length (glyphsOf row)) place sets → ⊥)
-  backward-refused-1 place =
-      let a = replies-1 (backwardOf row place m sign syllable sets) in
-      let b = backward-refused row m sign syllable sets place in
-      let c = bad-exactly row (length (glyphsOf row)) place sets in
-      (λ e. c .0 (b .0 (a .0 e)), λ n. a .1 (b .1 (c .1 n)))
+-- so the number of a reply with none is what the test answers with
+first : (w : Walked) (bad : Bool) → (w ≡ Refused) ↔ (bad ≡ true)
+    → (n : ℕ) → (walkReply w ≡ replies n []) ↔ (firstOf ((bad, 1) ∷ []) ≡ some n)
+unfolding firstOf
+first w true r n =
+    let one = ap walkReply (r .1 refl) in
+    (λ e. ap (λ (q : Reply). some (q .number)) (sym one ∙ e), λ e. one ∙ ap (λ (k : ℕ). replies k []) (Option·some-inj .0 e))
+first w false r n = (λ e. absurd (true≢false (sym (r .0 (bare w n e)))), λ e. absurd (Option·none-ne-some n e))
 
 -- ---- found and lost
 
@@ -118,6 +95,10 @@ lost-apart w x o f =
 
 module _ (w : Walked) (bad : Bool) {W : Type 0} (good : (bad ≡ false) ↔ W) (refused : (w ≡ Refused) ↔ (bad ≡ true)) (M : Walked → Type 0)
     (means : (r : Walked) → bad ≡ false → (w ≡ r) ↔ M r) where
+  refused-by : (n : ℕ) → (walkReply w ≡ replies n []) ↔ RefusedBy n (record { number = 1; lets = W } ∷ [])
+  refused-by n =
+      Iff·trans (first w bad refused n) (refused-exactly (record { test = bad; line = record { number = 1; lets = W }; tells = good } ∷ []) n)
+
   found-0 : (q : ℕ) → (walkReply w ≡ replies 0 (q ∷ [])) ↔ (W × M (Found q))
   found-0 q = (
     λ e. let f = tells-found w q .0 e in let b = passed w bad refused (found-apart w q f) in (good .0 b, means (Found q) b .0 f),
@@ -137,24 +118,26 @@ module _ (row : List ℕ) (m : Matcher) (sign : Asked) (syllable : ℕ) (sets : 
   forward-keeps len place =
       let w = forwardOf row len place m sign syllable sets in
       let bad = badWalk row len place sets in
-      let g = good-exactly row len place sets in
+      let g = walkable row len place sets in
       let r = forward-refused row m sign syllable sets len place in
-      let v = judgeAt m sign syllable sets (glyphsOf row) in
+      let M = Means (judgeAt m sign syllable sets (glyphsOf row)) len (place + 1) in
+      let means = forward-means row m sign syllable sets len place in
       record {
-        refused-1 = forward-refused-1 row m sign syllable sets len place;
-        found-0 = found-0 w bad g r (Means v len (place + 1)) (forward-means row m sign syllable sets len place);
-        lost-4 = lost-4 w bad g r (Means v len (place + 1)) (forward-means row m sign syllable sets len place);
+        refused = refused-by w bad g r M means;
+        found-0 = found-0 w bad g r M means;
+        lost-4 = lost-4 w bad g r M means;
       }
 
   pub backward-keeps : (place : ℕ) → BackwardPromise row place m sign syllable sets (backwardOf row place m sign syllable sets)
   backward-keeps place =
       let w = backwardOf row place m sign syllable sets in
       let bad = badWalk row (length (glyphsOf row)) place sets in
-      let g = good-exactly row (length (glyphsOf row)) place sets in
+      let g = walkable row (length (glyphsOf row)) place sets in
       let r = backward-refused row m sign syllable sets place in
-      let v = judgeAt m sign syllable sets (glyphsOf row) in
+      let M = MeansBack (judgeAt m sign syllable sets (glyphsOf row)) place in
+      let means = backward-means row m sign syllable sets place in
       record {
-        refused-1 = backward-refused-1 row m sign syllable sets place;
-        found-0 = found-0 w bad g r (MeansBack v place) (backward-means row m sign syllable sets place);
-        lost-4 = lost-4 w bad g r (MeansBack v place) (backward-means row m sign syllable sets place);
+        refused = refused-by w bad g r M means;
+        found-0 = found-0 w bad g r M means;
+        lost-4 = lost-4 w bad g r M means;
       }
