@@ -12,7 +12,7 @@ use lib.ListN.{length, getD, take}
 use Rattle.glyph.specs.declared.Glyph.{Glyph}
 use Rattle.glyph.specs.Glyph.{glyphsOf, blank}
 use Rattle.glyph.specs.Reply.{Reply}
-use Rattle.glyph.specs.Order.{Line, RefusedBy, LetThrough}
+use Rattle.glyph.specs.Order.{Line, RefusedBy}
 use Rattle.verdict.specs.Verdict.{Asked}
 use Rattle.matching.specs.declared.Lookup.{Lookup}
 use Rattle.matching.specs.declared.Refusal.{Refusal}
@@ -25,7 +25,7 @@ use Rattle.matching.specs.Matchers.{inputOn, aheadOn, backOn, backwardGlyphs}
 use Rattle.matching.specs.Answers.{slotted, inputTold, contextTold, refusalNumber, inputReply, contextReply}
 use Rattle.calls.specs.Calls.{inputFit, aheadFit, backFit, fitNumber, inputUnless, contextUnless, inputOf, aheadOf, backOf}
 use Rattle.matching.specs.Promises.{replies}
-use Rattle.calls.specs.Lines.{inputLines, aheadLines, backLines}
+use Rattle.calls.specs.Lines.{inputLines, InputAcceptable, aheadLines, AheadAcceptable, backLines, BackAcceptable}
 use Rattle.calls.specs.Table as table
 
 -- ---- what is said
@@ -33,20 +33,22 @@ use Rattle.calls.specs.Table as table
 -- input: by 1, 2 or 3, the number of the first line that refuses. 5 has no values either
 pub record InputRefusals (done : List ℕ) (d : ℕ) (coming : List ℕ) (len idx : ℕ) (sets : List ℕ) (values : ℕ) (answer : InputMatch) : Type 0 where
   pub refused : (n : ℕ) → (n ≡ 5 → ⊥) → (inputReply answer ≡ replies n []) ↔ RefusedBy n (inputLines done d coming len idx sets values)
-  pub let-through : LetThrough (inputLines done d coming len idx sets values)
+  pub let-through : InputAcceptable done d coming len idx sets values
       ↔ ((inputReply answer .number ≡ 0) ⊎ ((inputReply answer .number ≡ 4) ⊎ (inputReply answer .number ≡ 5)))
   pub empty : (inputReply answer .number ≡ 0 → ⊥) → (answer .count ≡ 0) × (answer .positions ≡ slotted [])
 
 -- lookahead and backtrack, each by its own lines: 1, 2, 3 and, of lookahead, 6
-pub record ContextRefusals (lines : List Line) (answer : ContextMatch) : Type 0 where
+pub record ContextRefusals (lines : List Line) (Acceptable : Type 0) (answer : ContextMatch) : Type 0 where
   pub refused : (n : ℕ) → (contextReply answer ≡ replies n []) ↔ RefusedBy n lines
-  pub let-through : LetThrough lines ↔ ((contextReply answer .number ≡ 0) ⊎ (contextReply answer .number ≡ 4))
+  pub let-through : Acceptable ↔ ((contextReply answer .number ≡ 0) ⊎ (contextReply answer .number ≡ 4))
 
 abbrev pub AheadRefusals : List ℕ → ℕ → List ℕ → ℕ → ℕ → ℕ → List ℕ → ℕ → ContextMatch → Type 0
-AheadRefusals done d coming len idx start sets values answer = ContextRefusals (aheadLines done d coming len idx start sets values) answer
+AheadRefusals done d coming len idx start sets values answer =
+    ContextRefusals (aheadLines done d coming len idx sets values start) (AheadAcceptable done d coming len idx sets values start) answer
 
 abbrev pub BackRefusals : List ℕ → ℕ → List ℕ → ℕ → ℕ → List ℕ → ℕ → ContextMatch → Type 0
-BackRefusals done d coming len idx sets values answer = ContextRefusals (backLines done d coming len idx sets values) answer
+BackRefusals done d coming len idx sets values answer =
+    ContextRefusals (backLines done d coming len idx sets values) (BackAcceptable done d coming len idx sets values) answer
 
 -- ---- numbers tell apart
 

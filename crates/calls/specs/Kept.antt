@@ -1,5 +1,5 @@
 -- The calls keep demand 2: what no line of 01's table refuses is answered as the promises say. The reply of an outcome tells the outcome.
-use Prim.Native.Nat.{ℕ, suc, _+_, _-_, _≤_, _<_}
+use Prim.Native.Nat.{ℕ, _+_, _-_}
 use mathlib.Core.Path.{_≡_, refl, sym, ap, _∙_}
 use mathlib.Core.List.{List, [], _∷_}
 use mathlib.Core.Bool.{Bool}
@@ -24,7 +24,7 @@ use Rattle.matching.specs.Demand2.{Loses}
 use Rattle.matching.specs.Demand2Laws.{demand-2, never-turned}
 use Rattle.matching.specs.Promises.{replies, inputSuccess, InputPromise, Leads, ContextPromise, inputJudge, inputRule, contextJudge}
 use Rattle.calls.specs.Calls.{inputUnless, contextUnless, inputOf, aheadOf, backOf}
-use Rattle.calls.specs.Lines.{Shaped}
+use Rattle.calls.specs.Lines.{InputAcceptable, AheadAcceptable, BackAcceptable}
 use Rattle.calls.specs.Table.{input-fits, ahead-fits, back-fits}
 
 -- ---- input
@@ -137,34 +137,34 @@ module _ {X : Type 0} (lookup : Lookup) (sets : List ℕ) (test : X → Asked) w
   unfolding backOn
   back-takes row syllable values = refl
 
--- ---- the calls, where no line refuses: line 1 is Shaped (and a start within len), line 2 a cursor at or past len, line 3 too many values, line 6 a start of 0
+-- ---- the calls, where no line refuses
 
-module _ {X : Type 0} (done : List ℕ) (d : ℕ) (coming : List ℕ) (len idx : ℕ) (lookup : Lookup) (sets : List ℕ) (test : X → Asked) (values : List X)
-    (shaped : Shaped done d coming len sets) (inside : idx < len) where
+module _ {X : Type 0} (done : List ℕ) (d : ℕ) (coming : List ℕ) (len idx : ℕ) (lookup : Lookup) (sets : List ℕ) (test : X → Asked)
+    (values : List X) where
   abbrev text : List Glyph
   text = take len (glyphsOf coming)
 
-  pub input-promise : length values ≤ 63
+  pub input-promise : InputAcceptable done d coming len idx sets (length values)
       → InputPromise text idx values (inputJudge lookup sets test text idx) (inputRule lookup sets (take d (glyphsOf done)) text idx)
       (inputOf done d coming len idx lookup sets test values)
   unfolding inputOf inputOn inputBy
-  input-promise few =
-      rw (input-fits done d coming len idx sets (length values) .1 (shaped, (inside, (few, tt))))
+  input-promise a =
+      rw (input-fits done d coming len idx sets (length values) .1 a)
       (input-keeps text idx values (inputJudge lookup sets test text idx) (inputRule lookup sets (take d (glyphsOf done)) text idx))
 
-  pub ahead-promise : (start : ℕ) → start ≤ len → length values ≤ 64 → 1 ≤ start
+  pub ahead-promise : (start : ℕ) → AheadAcceptable done d coming len idx sets (length values) start
       → ContextPromise (ahead (length text)) start values (contextJudge lookup sets test text idx text)
       (aheadOf done d coming len idx start lookup sets test values)
   unfolding aheadOf aheadOn
-  ahead-promise start reached few some =
-      rw (ahead-fits done d coming len idx sets (length values) start .1 ((shaped, reached), (inside, (few, (some, tt)))))
+  ahead-promise start a =
+      rw (ahead-fits done d coming len idx sets (length values) start .1 a)
       (context-keeps (ahead (length text)) start values (contextJudge lookup sets test text idx text))
 
-  pub back-promise : length values ≤ 64
+  pub back-promise : BackAcceptable done d coming len idx sets (length values)
       → let row = backwardGlyphs (lookup .settings .table) (take d (glyphsOf done)) (take idx text) in
       ContextPromise behind (length row) values (contextJudge lookup sets test text idx row) (backOf done d coming len idx lookup sets test values)
   unfolding backOf backOn
-  back-promise few =
+  back-promise a =
       let row = backwardGlyphs (lookup .settings .table) (take d (glyphsOf done)) (take idx text) in
-      rw (back-fits done d coming len idx sets (length values) .1 (shaped, (inside, (few, tt))))
+      rw (back-fits done d coming len idx sets (length values) .1 a)
       (context-keeps behind (length row) values (contextJudge lookup sets test text idx row))

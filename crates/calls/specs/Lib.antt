@@ -1,6 +1,5 @@
 pub mod Calls
 pub mod Lines
-pub mod Accepted
 pub mod Kept
 pub mod Table
 pub mod Demand1

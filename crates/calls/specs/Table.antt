@@ -18,7 +18,7 @@ use Rattle.matching.specs.declared.Refusal.the-variants.{Shape, Cursor, Values,
 use Rattle.matching.specs.Take.{slots}
 use Rattle.matching.specs.Answers.{refusalNumber}
 use Rattle.calls.specs.declared.Fit.{Fit}
-use Rattle.calls.specs.Lines.{Shaped, inputLines, backLines, aheadLines}
+use Rattle.calls.specs.Lines.{Shaped, inputLines, InputAcceptable, backLines, BackAcceptable, aheadLines, AheadAcceptable}
 use Rattle.calls.specs.Calls.{badText, inputFit, aheadFit, backFit, fitNumber}
 
 module _ (done : List ℕ) (d : ℕ) (coming : List ℕ) (len : ℕ) (sets : List ℕ) where
@@ -104,8 +104,12 @@ module _ (done : List ℕ) (d : ℕ) (coming : List ℕ) (len idx : ℕ) (sets :
   pub input-refused : (n : ℕ) → (fitNumber (inputFit done d coming len idx sets values) ≡ some n) ↔ RefusedBy n (inputLines done d coming len idx sets values)
   input-refused = refused-by (inputFit done d coming len idx sets values) inputTests input-first
 
-  pub input-fits : (inputFit done d coming len idx sets values ≡ Fit.Fits) ↔ LetThrough (inputLines done d coming len idx sets values)
-  input-fits = through-by (inputFit done d coming len idx sets values) inputTests input-first
+  pub input-fits : (inputFit done d coming len idx sets values ≡ Fit.Fits) ↔ InputAcceptable done d coming len idx sets values
+  input-fits =
+      let t = through-by (inputFit done d coming len idx sets values) inputTests input-first in (
+        λ e. let h = t .0 e in record { shaped = h .0; inside = h .1 .0; few = h .1 .1 .0 },
+        λ a. t .1 (a .shaped, (a .inside, (a .few, tt))),
+      )
 
   abbrev backTests : List Tested
   backTests = test-1 ∷ test-2 ∷ test-3 ∷ []
@@ -117,8 +121,12 @@ module _ (done : List ℕ) (d : ℕ) (coming : List ℕ) (len idx : ℕ) (sets :
   pub back-refused : (n : ℕ) → (fitNumber (backFit done d coming len idx sets values) ≡ some n) ↔ RefusedBy n (backLines done d coming len idx sets values)
   back-refused = refused-by (backFit done d coming len idx sets values) backTests back-first
 
-  pub back-fits : (backFit done d coming len idx sets values ≡ Fit.Fits) ↔ LetThrough (backLines done d coming len idx sets values)
-  back-fits = through-by (backFit done d coming len idx sets values) backTests back-first
+  pub back-fits : (backFit done d coming len idx sets values ≡ Fit.Fits) ↔ BackAcceptable done d coming len idx sets values
+  back-fits =
+      let t = through-by (backFit done d coming len idx sets values) backTests back-first in (
+        λ e. let h = t .0 e in record { shaped = h .0; inside = h .1 .0; few = h .1 .1 .0 },
+        λ a. t .1 (a .shaped, (a .inside, (a .few, tt))),
+      )
 
   module _ (start : ℕ) where
     abbrev aheadTests : List Tested
@@ -137,8 +145,13 @@ module _ (done : List ℕ) (d : ℕ) (coming : List ℕ) (len idx : ℕ) (sets :
     unfolding aheadFit firstOf
     ahead-first = four (bad || ltb len start) (leb len idx) (ltb slots values) (eqb start 0)
 
-    pub ahead-refused : (n : ℕ) → (fitNumber (aheadFit done d coming len idx start sets values) ≡ some n) ↔ RefusedBy n (aheadLines done d coming len idx start sets values)
+    pub ahead-refused : (n : ℕ)
+        → (fitNumber (aheadFit done d coming len idx start sets values) ≡ some n) ↔ RefusedBy n (aheadLines done d coming len idx sets values start)
     ahead-refused = refused-by (aheadFit done d coming len idx start sets values) aheadTests ahead-first
 
-    pub ahead-fits : (aheadFit done d coming len idx start sets values ≡ Fit.Fits) ↔ LetThrough (aheadLines done d coming len idx start sets values)
-    ahead-fits = through-by (aheadFit done d coming len idx start sets values) aheadTests ahead-first
+    pub ahead-fits : (aheadFit done d coming len idx start sets values ≡ Fit.Fits) ↔ AheadAcceptable done d coming len idx sets values start
+    ahead-fits =
+        let t = through-by (aheadFit done d coming len idx start sets values) aheadTests ahead-first in (
+          λ e. let h = t .0 e in record { shaped = h .0 .0; start-inside = h .0 .1; inside = h .1 .0; few = h .1 .1 .0; begun = h .1 .1 .1 .0 },
+          λ a. t .1 ((a .shaped, a .start-inside), (a .inside, (a .few, (a .begun, tt)))),
+        )

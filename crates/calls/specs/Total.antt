@@ -16,8 +16,8 @@ use Rattle.matching.specs.Demand2Laws.{demand-2}
 use Rattle.matching.specs.Rising.{as-many}
 use Rattle.calls.specs.declared.Fit.{Fit}
 use Rattle.calls.specs.Calls.{inputFit, inputUnless, inputOf}
-use Rattle.calls.specs.Accepted.{input-good}
 use Rattle.calls.specs.Kept.{input-takes}
+use Rattle.calls.specs.Table.{input-fits}
 
 -- both counts are bytes
 pub record Counted (g : Glyph) : Type 0 where
@@ -73,8 +73,8 @@ module _ {X : Type 0} (done : List ℕ) (d : ℕ) (coming : List ℕ) (len idx :
   fit-by : (f : Fit) (end total : ℕ) → inputFit done d coming len idx sets (length values) ≡ f
       → inputUnless f (inputTold text idx (inputOn lookup sets test (take d (glyphsOf done)) text idx values)) .answer ≡ InputAnswer.Matched end total → total ≤ 16320
   fit-by Fit.Fits end total e m =
-      let g = input-good done d coming len idx sets (length values) e in
-      most-by (inputOn lookup sets test (take d (glyphsOf done)) text idx values) end total (omega (arith, g .1)) refl m
+      let few = input-fits done d coming len idx sets (length values) .0 e .few in
+      most-by (inputOn lookup sets test (take d (glyphsOf done)) text idx values) end total few refl m
   fit-by (Fit.Refused why) end total e m = let z : _≡_ {A = ℕ} 0 1 = cc in absurd (omega arith)
 
   -- of any call, whatever the words

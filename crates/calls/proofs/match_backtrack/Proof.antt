@@ -6,9 +6,9 @@ use borrow.Author.Tests.{le-ltb}
 use lib.ListN.{length}
 use lib.Seq.{length-take-le}
 use Rattle.glyph.specs.Glyph.{glyphsOf}
-use Rattle.matching.specs.Take.{slots}
 use Rattle.calls.specs.Calls.{backOf}
-use Rattle.calls.specs.Accepted.{Good, back-good}
+use Rattle.calls.specs.Lines.{BackAcceptable}
+use Rattle.calls.specs.Table.{back-fits}
 use borrow.Author.Needs.{needs}
 use Rattle.calls.proofs.match_backtrack.Statement.{statement}
 use Rattle.calls.proofs.match_backtrack.Tie as tie
@@ -27,24 +27,28 @@ enum-told : tie.Need-enum-told
 enum-told c = search needs
 
 module _ (c : tie.After-enum-told) where
-  good : let a = c .before .before .before .before .before .before .before .args in Good (a .done .now) (a .d) (a .coming .now) (a .len) (a .idx) × (length (a .values .now) ≤ slots)
-  good =
+  acceptable :
       let a = c .before .before .before .before .before .before .before .args in
-      back-good (a .done .now) (a .d) (a .coming .now) (a .len) (a .idx) (a .sets .now) (length (a .values .now))
+      BackAcceptable (a .done .now) (a .d) (a .coming .now) (a .len) (a .idx) (a .sets .now) (length (a .values .now))
+  acceptable =
+      let a = c .before .before .before .before .before .before .before .args in
+      back-fits (a .done .now) (a .d) (a .coming .now) (a .len) (a .idx) (a .sets .now) (length (a .values .now)) .0
       (sym (c .before .before .back-fit .ensures) ∙ c .enum-told .given .1)
 
 first-requires : tie.Need-first-requires
-first-requires c κs = good (c .before) .0 .within
+first-requires c κs = acceptable (c .before) .shaped .len-inside
 
 backward-row-requires : tie.Need-backward-row-requires
 backward-row-requires c κs = search needs
 
 module _ (c : tie.After-first) where
   whole : length (glyphsOf (c .first .result .now)) ≡ c .before .before .before .before .before .before .before .before .before .args .len
-  whole = let a = c .before .before .before .before .before .before .before .before .before .args in ap length (c .first .ensures) ∙ length-take-le (a .len) (glyphsOf (a .coming .now)) (good (c .before .before) .0 .within)
+  whole =
+      let a = c .before .before .before .before .before .before .before .before .before .args in
+      ap length (c .first .ensures) ∙ length-take-le (a .len) (glyphsOf (a .coming .now)) (acceptable (c .before .before) .shaped .len-inside)
 
 read-requires : tie.Need-read-requires
-read-requires c κs = let g = good (c .before .before .before) in omega (arith, whole (c .before), g .0 .cursor)
+read-requires c κs = let g = acceptable (c .before .before .before) in omega (arith, whole (c .before), g .inside)
 
 slice-aggregate-backtrack : tie.Need-slice-aggregate-backtrack
 slice-aggregate-backtrack c = search needs
@@ -55,12 +59,17 @@ backtrack-requires c κs = search needs
 returns-2 : tie.Need-returns-2
 unfolding backOf
 returns-2 c =
-    let a = c .before .before .before .before .before .before .before .before .before .before .before .before .before .args in
-    let g = good (c .before .before .before .before .before .before) in
-    let there = le-ltb (length (glyphsOf (a .done .now))) (a .d) (g .0 .before) in
-    let here : a .idx ≤ length (glyphsOf (c .before .before .before .before .first .result .now)) = omega (arith, whole (c .before .before .before .before), g .0 .cursor) in
-    let row = rw (there, le-ltb (length (glyphsOf (c .before .before .before .before .first .result .now))) (a .idx) here) at (c .before .before .before .backward-row .ensures) in
-    rw (← c .before .before .before .before .before .before .before .before .back-fit .ensures, c .before .before .before .before .before .before .enum-told .given .1, ← c .before .before .before .before .first .ensures, ← row, ← c .before .before .read .ensures) (c .backtrack .ensures)
+    let b = c .before .before .before in
+    let f = b .before in
+    let e = f .before .before in
+    let a = e .before .before .before .before .before .before .before .args in
+    let g = acceptable e in
+    let text = glyphsOf (f .first .result .now) in
+    let there = le-ltb (length (glyphsOf (a .done .now))) (a .d) (g .shaped .d-inside) in
+    let here : a .idx ≤ length text = omega (arith, whole f, g .inside) in
+    let row = rw (there, le-ltb (length text) (a .idx) here) at (b .backward-row .ensures) in
+    rw (← e .before .before .back-fit .ensures, e .enum-told .given .1, ← f .first .ensures, ← row, ← c .before .before .read .ensures)
+    (c .backtrack .ensures)
 
 pub match-backtrack-spec : {M : Type 1} → statement M
 match-backtrack-spec =

@@ -1,14 +1,13 @@
 -- A call that isn't refused has its parts in their rows. Assumes nothing.
-use Prim.Native.Nat.{_<_}
 use mathlib.Core.Path.{_≡_, refl, sym, ap, _∙_}
 use native.Mathlib.Omega.{arith}
 use lib.ListN.{length}
 use lib.Seq.{length-take-le}
 use Rattle.glyph.specs.Glyph.{glyphsOf}
-use Rattle.matching.specs.Take.{slots}
 use Rattle.matching.specs.Matchers.{inputOn}
 use Rattle.calls.specs.Calls.{inputOf}
-use Rattle.calls.specs.Accepted.{Good, input-good}
+use Rattle.calls.specs.Lines.{InputAcceptable}
+use Rattle.calls.specs.Table.{input-fits}
 use borrow.Author.Needs.{needs}
 use Rattle.calls.proofs.match_input.Statement.{statement}
 use Rattle.calls.proofs.match_input.Tie as tie
@@ -30,17 +29,19 @@ enum-told : tie.Need-enum-told
 enum-told c = search needs
 
 module _ (c : tie.After-enum-told) where
-  good : let a = c .before .before .before .before .before .before .before .args in Good (a .done .now) (a .d) (a .coming .now) (a .len) (a .idx) × (length (a .values .now) < slots)
-  good =
+  acceptable :
       let a = c .before .before .before .before .before .before .before .args in
-      input-good (a .done .now) (a .d) (a .coming .now) (a .len) (a .idx) (a .sets .now) (length (a .values .now))
+      InputAcceptable (a .done .now) (a .d) (a .coming .now) (a .len) (a .idx) (a .sets .now) (length (a .values .now))
+  acceptable =
+      let a = c .before .before .before .before .before .before .before .args in
+      input-fits (a .done .now) (a .d) (a .coming .now) (a .len) (a .idx) (a .sets .now) (length (a .values .now)) .0
       (sym (c .before .before .input-fit .ensures) ∙ c .enum-told .given .1)
 
 first-requires : tie.Need-first-requires
-first-requires c κs = good c .0 .before
+first-requires c κs = acceptable c .shaped .d-inside
 
 first-requires-2 : tie.Need-first-requires-2
-first-requires-2 c κs = good (c .before) .0 .within
+first-requires-2 c κs = acceptable (c .before) .shaped .len-inside
 
 matcher-of-requires : tie.Need-matcher-of-requires
 matcher-of-requires c κs = search needs
@@ -55,13 +56,14 @@ take-input-requires : tie.Need-take-input-requires
 take-input-requires c κs =
     let f = c .before .before .before .before .before in
     let s = f .before .before .before .before .before .before .before .before .before in
-    let g = good (f .before .before) in
+    let g = acceptable (f .before .before) in
     let gs = glyphsOf (s .args .coming .now) in
-    let whole : length (glyphsOf (f .first2 .result .now)) ≡ s .args .len = ap length (f .first2 .ensures) ∙ length-take-le (s .args .len) gs (g .0 .within) in
-    ((omega (arith, whole, g .0 .cursor), omega (arith, whole, g .0 .within, g .0 .short), g .1), refl)
+    let whole : length (glyphsOf (f .first2 .result .now)) ≡ s .args .len =
+    ap length (f .first2 .ensures) ∙ length-take-le (s .args .len) gs (g .shaped .len-inside) in
+    ((omega (arith, whole, g .inside), omega (arith, whole, g .shaped .len-inside, g .shaped .coming-short), omega (arith, g .few)), refl)
 
 count-of-requires : tie.Need-count-of-requires
-count-of-requires c κs = good (c .before .before .before .before .before .before .before .before) .1
+count-of-requires c κs = omega (arith, acceptable (c .before .before .before .before .before .before .before .before) .few)
 
 returns-2 : tie.Need-returns-2
 unfolding inputOf inputOn

@@ -1,13 +1,12 @@
 -- A call that isn't refused has its parts in their rows, and its start in the text. Assumes nothing.
-use Prim.Native.Nat.{_≤_}
 use mathlib.Core.Path.{_≡_, sym, ap, _∙_}
 use native.Mathlib.Omega.{arith}
 use lib.ListN.{length}
 use lib.Seq.{length-take-le}
 use Rattle.glyph.specs.Glyph.{glyphsOf}
-use Rattle.matching.specs.Take.{slots}
 use Rattle.calls.specs.Calls.{aheadOf}
-use Rattle.calls.specs.Accepted.{Good, ahead-good}
+use Rattle.calls.specs.Lines.{AheadAcceptable}
+use Rattle.calls.specs.Table.{ahead-fits}
 use borrow.Author.Needs.{needs}
 use Rattle.calls.proofs.match_lookahead.Statement.{statement}
 use Rattle.calls.proofs.match_lookahead.Tie as tie
@@ -26,29 +25,31 @@ enum-told : tie.Need-enum-told
 enum-told c = search needs
 
 module _ (c : tie.After-enum-told) where
-  good :
+  acceptable :
       let a = c .before .before .before .before .before .before .before .args in
-      Good (a .done .now) (a .d) (a .coming .now) (a .len) (a .idx) × (a .start ≤ a .len) × (length (a .values .now) ≤ slots)
-  good =
+      AheadAcceptable (a .done .now) (a .d) (a .coming .now) (a .len) (a .idx) (a .sets .now) (length (a .values .now)) (a .start)
+  acceptable =
       let a = c .before .before .before .before .before .before .before .args in
-      ahead-good (a .done .now) (a .d) (a .coming .now) (a .len) (a .idx) (a .sets .now) (length (a .values .now)) (a .start)
+      ahead-fits (a .done .now) (a .d) (a .coming .now) (a .len) (a .idx) (a .sets .now) (length (a .values .now)) (a .start) .0
       (sym (c .before .before .ahead-fit .ensures) ∙ c .enum-told .given .1)
 
 first-requires : tie.Need-first-requires
-first-requires c κs = good c .0 .within
+first-requires c κs = acceptable c .shaped .len-inside
 
 module _ (c : tie.After-first) where
   whole : length (glyphsOf (c .first .result .now)) ≡ c .before .before .before .before .before .before .before .before .args .len
-  whole = let a = c .before .before .before .before .before .before .before .before .args in ap length (c .first .ensures) ∙ length-take-le (a .len) (glyphsOf (a .coming .now)) (good (c .before) .0 .within)
+  whole =
+      let a = c .before .before .before .before .before .before .before .before .args in
+      ap length (c .first .ensures) ∙ length-take-le (a .len) (glyphsOf (a .coming .now)) (acceptable (c .before) .shaped .len-inside)
 
 read-requires : tie.Need-read-requires
-read-requires c κs = let g = good (c .before) in omega (arith, whole c, g .0 .cursor)
+read-requires c κs = let g = acceptable (c .before) in omega (arith, whole c, g .inside)
 
 slice-aggregate-lookahead : tie.Need-slice-aggregate-lookahead
 slice-aggregate-lookahead c = search needs
 
 lookahead-requires : tie.Need-lookahead-requires
-lookahead-requires c κs = let g = good (c .before .before .before) in omega (arith, whole (c .before .before), g .1)
+lookahead-requires c κs = let g = acceptable (c .before .before .before) in omega (arith, whole (c .before .before), g .start-inside)
 
 returns-2 : tie.Need-returns-2
 unfolding aheadOf
