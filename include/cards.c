@@ -23,14 +23,22 @@ static void card(const char *name, const char *says) {
 
 /* ---- texts */
 
+/* Numbers go by the header's names, so that a card stays as it is where they change. */
+enum {
+    ROW_3 = CB_WORDS * 3, /* words of three glyphs */
+    CURSOR = CB_LIMIT - 3 /* where three glyphs that end a row begin: 1,021 in document 01 */
+};
+
 static const uint32_t MARK = CB_WORD_2(0, 0, CB_PROPS_MARK);
 static const uint32_t IGNORABLE = CB_WORD_2(CB_FLAG_IGNORABLE, 0, 0);
 static const uint32_t ZWNJ = CB_WORD_2(CB_FLAG_IGNORABLE | CB_FLAG_ZWNJ, 0, 0);
 static const uint32_t ZWJ = CB_WORD_2(CB_FLAG_IGNORABLE | CB_FLAG_ZWJ, 0, 0);
 static const uint32_t ONE = CB_WORD_3(0, 0, 1, 1);
 
+/* the glyph at a place becomes these words, and 0 in any other */
 static void put(uint32_t *row, size_t place, uint32_t id, uint32_t mask, uint32_t word_2, uint32_t word_3) {
     uint32_t *glyph = row + CB_WORDS * place;
+    for (size_t i = 0; i < CB_WORDS; i++) glyph[i] = 0;
     glyph[0] = id;
     glyph[1] = mask;
     glyph[2] = word_2;
@@ -38,7 +46,7 @@ static void put(uint32_t *row, size_t place, uint32_t id, uint32_t mask, uint32_
 }
 
 /* ids 5, 9, 7, of which 9 has this word 2 */
-static uint32_t coming_3[12];
+static uint32_t coming_3[ROW_3];
 static void five_nine_seven(uint32_t word_2) {
     put(coming_3, 0, 5, 1, 0, ONE);
     put(coming_3, 1, 9, 1, word_2, ONE);
@@ -82,7 +90,7 @@ static bool is_bare(cb_matched m, uint8_t number, size_t end) {
 
 static void input_cards(void) {
     static const uint16_t at_0_1[2] = {0, 1}, at_0_2[2] = {0, 2};
-    uint32_t two[8];
+    uint32_t two[CB_WORDS * 2];
     put(two, 0, 5, 1, 0, ONE);
     put(two, 1, 7, 1, 0, ONE);
     EXPECT(is_matched(input(two, 2, 0, 7), 2, 2, 2, at_0_1));
@@ -114,10 +122,10 @@ static void value_card(void) {
         positions[i] = (uint16_t)i;
     }
     cb_lookup l = plain(0);
-    EXPECT(is_matched(cb_match_input(NULL, 0, 0, coming, 256, 64, 0, l, NULL, 0, CB_TEST_EQUAL, values, 63), 64, 64, 64, positions));
-    EXPECT(is_bare(cb_match_input(NULL, 0, 0, coming, 256, 1, 0, l, NULL, 0, CB_TEST_EQUAL, values, 63), CB_LOST, 1));
-    EXPECT(is_bare(cb_match_input(NULL, 0, 0, coming, 256, 64, 0, l, NULL, 0, CB_TEST_EQUAL, values, 64), CB_REFUSAL_VALUES, 0));
-    EXPECT(is_matched(cb_match_input(NULL, 0, 0, coming, 256, 64, 0, plain(0), NULL, 0, CB_TEST_EQUAL, NULL, 0), 1, 1, 1, positions));
+    EXPECT(is_matched(cb_match_input(NULL, 0, 0, coming, CB_WORDS * 64, 64, 0, l, NULL, 0, CB_TEST_EQUAL, values, 63), 64, 64, 64, positions));
+    EXPECT(is_bare(cb_match_input(NULL, 0, 0, coming, CB_WORDS * 64, 1, 0, l, NULL, 0, CB_TEST_EQUAL, values, 63), CB_LOST, 1));
+    EXPECT(is_bare(cb_match_input(NULL, 0, 0, coming, CB_WORDS * 64, 64, 0, l, NULL, 0, CB_TEST_EQUAL, values, 64), CB_REFUSAL_VALUES, 0));
+    EXPECT(is_matched(cb_match_input(NULL, 0, 0, coming, CB_WORDS * 64, 64, 0, plain(0), NULL, 0, CB_TEST_EQUAL, NULL, 0), 1, 1, 1, positions));
     card("K15", "63 values pass the test of their number, 64 give 3; no values succeed untested");
 }
 
@@ -187,39 +195,39 @@ static bool is_placed(cb_placed p, uint8_t number, size_t place) { return p.numb
 static void question_card(void) {
     static const uint16_t in_set_3[2] = {3, 9};
     cb_lookup l = plain(0);
-    uint32_t row[4];
+    uint32_t row[CB_WORDS];
     put(row, 0, 9, 1, ZWNJ, ONE);
-    EXPECT(is_said(cb_may_skip(row, 4, 0, l, false, NULL, 0), 0, CB_MAY_SKIP_NO));
+    EXPECT(is_said(cb_may_skip(row, CB_WORDS, 0, l, false, NULL, 0), 0, CB_MAY_SKIP_NO));
     l.gpos = true;
-    EXPECT(is_said(cb_may_skip(row, 4, 0, l, false, NULL, 0), 0, CB_MAY_SKIP_MAYBE));
+    EXPECT(is_said(cb_may_skip(row, CB_WORDS, 0, l, false, NULL, 0), 0, CB_MAY_SKIP_MAYBE));
     l = plain(0);
     l.zwnj = true;
-    EXPECT(is_said(cb_may_skip(row, 4, 0, l, false, NULL, 0), 0, CB_MAY_SKIP_NO));
-    EXPECT(is_said(cb_may_skip(row, 4, 0, l, true, NULL, 0), 0, CB_MAY_SKIP_MAYBE));
+    EXPECT(is_said(cb_may_skip(row, CB_WORDS, 0, l, false, NULL, 0), 0, CB_MAY_SKIP_NO));
+    EXPECT(is_said(cb_may_skip(row, CB_WORDS, 0, l, true, NULL, 0), 0, CB_MAY_SKIP_MAYBE));
     put(row, 0, 9, 1, ZWJ, ONE);
-    EXPECT(is_said(cb_may_skip(row, 4, 0, l, false, NULL, 0), 0, CB_MAY_SKIP_NO));
+    EXPECT(is_said(cb_may_skip(row, CB_WORDS, 0, l, false, NULL, 0), 0, CB_MAY_SKIP_NO));
     l.zwj = true;
-    EXPECT(is_said(cb_may_skip(row, 4, 0, l, false, NULL, 0), 0, CB_MAY_SKIP_MAYBE));
+    EXPECT(is_said(cb_may_skip(row, CB_WORDS, 0, l, false, NULL, 0), 0, CB_MAY_SKIP_MAYBE));
     put(row, 0, 9, 1, MARK, ONE);
     l = plain(CB_USE_FILTERING_SET | 3 << 16);
-    EXPECT(is_said(cb_may_skip(row, 4, 0, l, false, in_set_3, 2), 0, CB_MAY_SKIP_NO));
-    EXPECT(is_said(cb_may_skip(row, 4, 0, l, false, NULL, 0), 0, CB_MAY_SKIP_YES));
-    EXPECT(is_said(cb_verdict(row, 4, 0, l, false, sought(CB_TEST_EQUAL, 0, 9), in_set_3, 2), 0, CB_VERDICT_MATCH));
-    EXPECT(is_said(cb_verdict(row, 4, 0, l, false, sought(CB_TEST_EQUAL, 0, 8), in_set_3, 2), 0, CB_VERDICT_NOT_MATCH));
-    EXPECT(is_said(cb_verdict(row, 4, 0, l, false, sought(CB_TEST_EQUAL, 0, 9), NULL, 0), 0, CB_VERDICT_SKIP));
+    EXPECT(is_said(cb_may_skip(row, CB_WORDS, 0, l, false, in_set_3, 2), 0, CB_MAY_SKIP_NO));
+    EXPECT(is_said(cb_may_skip(row, CB_WORDS, 0, l, false, NULL, 0), 0, CB_MAY_SKIP_YES));
+    EXPECT(is_said(cb_verdict(row, CB_WORDS, 0, l, false, sought(CB_TEST_EQUAL, 0, 9), in_set_3, 2), 0, CB_VERDICT_MATCH));
+    EXPECT(is_said(cb_verdict(row, CB_WORDS, 0, l, false, sought(CB_TEST_EQUAL, 0, 8), in_set_3, 2), 0, CB_VERDICT_NOT_MATCH));
+    EXPECT(is_said(cb_verdict(row, CB_WORDS, 0, l, false, sought(CB_TEST_EQUAL, 0, 9), NULL, 0), 0, CB_VERDICT_SKIP));
     put(row, 0, 9, 1, CB_WORD_2(0, 2, 0), ONE);
     l = plain(0);
-    EXPECT(is_said(cb_may_match(row, 4, 0, l, false, sought(CB_TEST_EQUAL, 1, 9)), 0, CB_MAY_MATCH_YES));
-    EXPECT(is_said(cb_may_match(row, 4, 0, l, false, sought(CB_TEST_EQUAL, 1, 8)), 0, CB_MAY_MATCH_NO));
-    EXPECT(is_said(cb_may_match(row, 4, 0, l, false, sought(CB_TEST_ANY, 1, 8)), 0, CB_MAY_MATCH_YES));
-    EXPECT(is_said(cb_may_match(row, 4, 0, l, false, sought(CB_TEST_NOTHING, 1, 8)), 0, CB_MAY_MATCH_MAYBE));
+    EXPECT(is_said(cb_may_match(row, CB_WORDS, 0, l, false, sought(CB_TEST_EQUAL, 1, 9)), 0, CB_MAY_MATCH_YES));
+    EXPECT(is_said(cb_may_match(row, CB_WORDS, 0, l, false, sought(CB_TEST_EQUAL, 1, 8)), 0, CB_MAY_MATCH_NO));
+    EXPECT(is_said(cb_may_match(row, CB_WORDS, 0, l, false, sought(CB_TEST_ANY, 1, 8)), 0, CB_MAY_MATCH_YES));
+    EXPECT(is_said(cb_may_match(row, CB_WORDS, 0, l, false, sought(CB_TEST_NOTHING, 1, 8)), 0, CB_MAY_MATCH_MAYBE));
     l.syllables = true;
-    EXPECT(is_said(cb_may_match(row, 4, 0, l, false, sought(CB_TEST_EQUAL, 1, 9)), 0, CB_MAY_MATCH_NO));
-    EXPECT(is_said(cb_may_match(row, 4, 0, l, false, sought(CB_TEST_EQUAL, 2, 9)), 0, CB_MAY_MATCH_YES));
+    EXPECT(is_said(cb_may_match(row, CB_WORDS, 0, l, false, sought(CB_TEST_EQUAL, 1, 9)), 0, CB_MAY_MATCH_NO));
+    EXPECT(is_said(cb_may_match(row, CB_WORDS, 0, l, false, sought(CB_TEST_EQUAL, 2, 9)), 0, CB_MAY_MATCH_YES));
     l = plain(0);
     l.mask = 2;
-    EXPECT(is_said(cb_may_match(row, 4, 0, l, false, sought(CB_TEST_EQUAL, 0, 9)), 0, CB_MAY_MATCH_NO));
-    EXPECT(is_said(cb_may_match(row, 4, 0, l, true, sought(CB_TEST_EQUAL, 0, 9)), 0, CB_MAY_MATCH_YES));
+    EXPECT(is_said(cb_may_match(row, CB_WORDS, 0, l, false, sought(CB_TEST_EQUAL, 0, 9)), 0, CB_MAY_MATCH_NO));
+    EXPECT(is_said(cb_may_match(row, CB_WORDS, 0, l, true, sought(CB_TEST_EQUAL, 0, 9)), 0, CB_MAY_MATCH_YES));
     card("-", "the questions; each field of a lookup and of what is sought turns an answer");
 }
 
@@ -228,13 +236,13 @@ static void walk_card(void) {
     cb_lookup marks = plain(CB_IGNORE_MARKS), set = plain(CB_USE_FILTERING_SET | 3 << 16);
     cb_sought five = sought(CB_TEST_EQUAL, 0, 5), seven = sought(CB_TEST_EQUAL, 0, 7);
     five_nine_seven(MARK);
-    EXPECT(is_step(cb_forward(coming_3, 12, 3, 0, marks, false, seven, NULL, 0), 0, false, 2));
-    EXPECT(is_step(cb_forward(coming_3, 12, 3, 0, plain(0), false, seven, NULL, 0), CB_LOST, false, 2));
-    EXPECT(is_step(cb_forward(coming_3, 12, 2, 0, marks, false, seven, NULL, 0), CB_LOST, true, 2));
-    EXPECT(is_step(cb_forward(coming_3, 12, 3, 0, set, false, seven, in_set_3, 2), CB_LOST, false, 2));
-    EXPECT(is_step(cb_backward(coming_3, 12, 2, marks, true, five, NULL, 0), 0, false, 0));
-    EXPECT(is_step(cb_backward(coming_3, 12, 2, set, true, five, in_set_3, 2), CB_LOST, false, 0));
-    EXPECT(is_step(cb_backward(coming_3, 12, 0, marks, true, five, NULL, 0), CB_LOST, true, 0));
+    EXPECT(is_step(cb_forward(coming_3, ROW_3, 3, 0, marks, false, seven, NULL, 0), 0, false, 2));
+    EXPECT(is_step(cb_forward(coming_3, ROW_3, 3, 0, plain(0), false, seven, NULL, 0), CB_LOST, false, 2));
+    EXPECT(is_step(cb_forward(coming_3, ROW_3, 2, 0, marks, false, seven, NULL, 0), CB_LOST, true, 2));
+    EXPECT(is_step(cb_forward(coming_3, ROW_3, 3, 0, set, false, seven, in_set_3, 2), CB_LOST, false, 2));
+    EXPECT(is_step(cb_backward(coming_3, ROW_3, 2, marks, true, five, NULL, 0), 0, false, 0));
+    EXPECT(is_step(cb_backward(coming_3, ROW_3, 2, set, true, five, in_set_3, 2), CB_LOST, false, 0));
+    EXPECT(is_step(cb_backward(coming_3, ROW_3, 0, marks, true, five, NULL, 0), CB_LOST, true, 0));
     card("-", "the walks: found, stopped, run out");
 
     cb_lookup l = plain(0);
@@ -242,17 +250,17 @@ static void walk_card(void) {
     five_nine_seven(CB_WORD_2(0, 2, 0));
     for (uint8_t syllable = 1; syllable <= 2; syllable++) {
         uint8_t number = syllable == 2 ? CB_MATCHED : CB_LOST;
-        EXPECT(cb_forward(coming_3, 12, 3, 0, l, false, sought(CB_TEST_EQUAL, syllable, 9), NULL, 0).number == number);
-        EXPECT(cb_backward(coming_3, 12, 2, l, false, sought(CB_TEST_EQUAL, syllable, 9), NULL, 0).number == number);
-        EXPECT(cb_forward(coming_3, 12, 3, 0, l, false, sought(CB_TEST_ANY, syllable, 8), NULL, 0).number == number);
-        EXPECT(cb_backward(coming_3, 12, 2, l, false, sought(CB_TEST_ANY, syllable, 8), NULL, 0).number == number);
+        EXPECT(cb_forward(coming_3, ROW_3, 3, 0, l, false, sought(CB_TEST_EQUAL, syllable, 9), NULL, 0).number == number);
+        EXPECT(cb_backward(coming_3, ROW_3, 2, l, false, sought(CB_TEST_EQUAL, syllable, 9), NULL, 0).number == number);
+        EXPECT(cb_forward(coming_3, ROW_3, 3, 0, l, false, sought(CB_TEST_ANY, syllable, 8), NULL, 0).number == number);
+        EXPECT(cb_backward(coming_3, ROW_3, 2, l, false, sought(CB_TEST_ANY, syllable, 8), NULL, 0).number == number);
     }
     l.syllables = false;
     l.mask = 2;
-    EXPECT(is_step(cb_forward(coming_3, 12, 3, 0, l, true, sought(CB_TEST_EQUAL, 0, 9), NULL, 0), 0, false, 1));
-    EXPECT(is_step(cb_forward(coming_3, 12, 3, 0, l, false, sought(CB_TEST_EQUAL, 0, 9), NULL, 0), CB_LOST, false, 2));
-    EXPECT(is_step(cb_backward(coming_3, 12, 3, l, true, seven, NULL, 0), 0, false, 2));
-    EXPECT(is_step(cb_backward(coming_3, 12, 3, l, false, seven, NULL, 0), CB_LOST, false, 1));
+    EXPECT(is_step(cb_forward(coming_3, ROW_3, 3, 0, l, true, sought(CB_TEST_EQUAL, 0, 9), NULL, 0), 0, false, 1));
+    EXPECT(is_step(cb_forward(coming_3, ROW_3, 3, 0, l, false, sought(CB_TEST_EQUAL, 0, 9), NULL, 0), CB_LOST, false, 2));
+    EXPECT(is_step(cb_backward(coming_3, ROW_3, 3, l, true, seven, NULL, 0), 0, false, 2));
+    EXPECT(is_step(cb_backward(coming_3, ROW_3, 3, l, false, seven, NULL, 0), CB_LOST, false, 1));
     card("-", "the walks: the starting syllable, the kind of test, and the matcher turn an answer");
 }
 
@@ -260,18 +268,18 @@ static void context_card(void) {
     static const uint32_t v[2] = {7, 5};
     static const uint16_t in_set_3[2] = {3, 9};
     cb_lookup marks = plain(CB_IGNORE_MARKS), set = plain(CB_USE_FILTERING_SET | 3 << 16), gpos = marks;
-    uint32_t done[12];
+    uint32_t done[ROW_3];
     gpos.gpos = true;
     five_nine_seven(MARK);
-    for (size_t i = 0; i < 12; i++) done[i] = coming_3[i];
-    EXPECT(is_placed(cb_match_lookahead(done, 12, 3, coming_3, 12, 3, 0, 1, marks, NULL, 0, CB_TEST_EQUAL, v, 1), 0, 3));
-    EXPECT(is_placed(cb_match_lookahead(done, 12, 3, coming_3, 12, 3, 0, 2, marks, NULL, 0, CB_TEST_EQUAL, NULL, 0), 0, 2));
-    EXPECT(is_placed(cb_match_lookahead(done, 12, 3, coming_3, 12, 3, 0, 1, set, in_set_3, 2, CB_TEST_EQUAL, v, 1), CB_LOST, 2));
-    EXPECT(is_placed(cb_match_lookahead(done, 12, 3, coming_3, 12, 3, 0, 1, set, in_set_3, 2, CB_TEST_ANY, v, 1), 0, 2));
-    EXPECT(is_placed(cb_match_backtrack(done, 12, 3, coming_3, 12, 3, 0, marks, NULL, 0, CB_TEST_EQUAL, v, 2), 0, 0));
-    EXPECT(is_placed(cb_match_backtrack(done, 12, 2, coming_3, 12, 3, 0, marks, NULL, 0, CB_TEST_EQUAL, NULL, 0), 0, 2));
-    EXPECT(is_placed(cb_match_backtrack(done, 12, 2, coming_3, 12, 3, 0, marks, NULL, 0, CB_TEST_EQUAL, v, 1), CB_LOST, 0));
-    EXPECT(is_placed(cb_match_backtrack(done, 12, 0, coming_3, 12, 3, 2, gpos, NULL, 0, CB_TEST_EQUAL, v + 1, 1), 0, 0));
+    for (size_t i = 0; i < ROW_3; i++) done[i] = coming_3[i];
+    EXPECT(is_placed(cb_match_lookahead(done, ROW_3, 3, coming_3, ROW_3, 3, 0, 1, marks, NULL, 0, CB_TEST_EQUAL, v, 1), 0, 3));
+    EXPECT(is_placed(cb_match_lookahead(done, ROW_3, 3, coming_3, ROW_3, 3, 0, 2, marks, NULL, 0, CB_TEST_EQUAL, NULL, 0), 0, 2));
+    EXPECT(is_placed(cb_match_lookahead(done, ROW_3, 3, coming_3, ROW_3, 3, 0, 1, set, in_set_3, 2, CB_TEST_EQUAL, v, 1), CB_LOST, 2));
+    EXPECT(is_placed(cb_match_lookahead(done, ROW_3, 3, coming_3, ROW_3, 3, 0, 1, set, in_set_3, 2, CB_TEST_ANY, v, 1), 0, 2));
+    EXPECT(is_placed(cb_match_backtrack(done, ROW_3, 3, coming_3, ROW_3, 3, 0, marks, NULL, 0, CB_TEST_EQUAL, v, 2), 0, 0));
+    EXPECT(is_placed(cb_match_backtrack(done, ROW_3, 2, coming_3, ROW_3, 3, 0, marks, NULL, 0, CB_TEST_EQUAL, NULL, 0), 0, 2));
+    EXPECT(is_placed(cb_match_backtrack(done, ROW_3, 2, coming_3, ROW_3, 3, 0, marks, NULL, 0, CB_TEST_EQUAL, v, 1), CB_LOST, 0));
+    EXPECT(is_placed(cb_match_backtrack(done, ROW_3, 0, coming_3, ROW_3, 3, 2, gpos, NULL, 0, CB_TEST_EQUAL, v + 1, 1), 0, 0));
     card("-", "lookahead and backtrack");
 }
 
@@ -279,13 +287,13 @@ static void context_card(void) {
 static bool is_input(uint32_t word_2, cb_lookup l, uint8_t test) {
     static const uint32_t seven = 7;
     five_nine_seven(word_2);
-    return cb_match_input(NULL, 0, 0, coming_3, 12, 3, 0, l, NULL, 0, test, &seven, 1).number == CB_MATCHED;
+    return cb_match_input(NULL, 0, 0, coming_3, ROW_3, 3, 0, l, NULL, 0, test, &seven, 1).number == CB_MATCHED;
 }
 static bool is_context(uint32_t word_2, cb_lookup l, uint8_t test) {
     static const uint32_t seven = 7, five = 5;
     five_nine_seven(word_2);
-    bool ahead = cb_match_lookahead(NULL, 0, 0, coming_3, 12, 3, 0, 1, l, NULL, 0, test, &seven, 1).number == CB_MATCHED;
-    bool back = cb_match_backtrack(coming_3, 12, 2, coming_3, 12, 3, 2, l, NULL, 0, test, &five, 1).number == CB_MATCHED;
+    bool ahead = cb_match_lookahead(NULL, 0, 0, coming_3, ROW_3, 3, 0, 1, l, NULL, 0, test, &seven, 1).number == CB_MATCHED;
+    bool back = cb_match_backtrack(coming_3, ROW_3, 2, coming_3, ROW_3, 3, 2, l, NULL, 0, test, &five, 1).number == CB_MATCHED;
     EXPECT(ahead == back);
     return ahead;
 }
@@ -313,14 +321,14 @@ static void matcher_card(void) {
 
     /* the glyphs on which the cursor stands are of syllable 1, and 9 is of none */
     five_nine_seven(IGNORABLE);
-    coming_3[2] = coming_3[10] = CB_WORD_2(0, 1, 0);
+    coming_3[2] = coming_3[CB_WORDS * 2 + 2] = CB_WORD_2(0, 1, 0);
     for (int tested = 0; tested < 2; tested++) {
         uint8_t number = tested ? CB_LOST : CB_MATCHED;
         l = off;
         l.syllables = tested;
-        EXPECT(cb_match_input(NULL, 0, 0, coming_3, 12, 3, 0, l, NULL, 0, CB_TEST_EQUAL, &nine, 1).number == number);
-        EXPECT(cb_match_lookahead(NULL, 0, 0, coming_3, 12, 3, 0, 1, l, NULL, 0, CB_TEST_EQUAL, &nine, 1).number == number);
-        EXPECT(cb_match_backtrack(coming_3, 12, 2, coming_3, 12, 3, 2, l, NULL, 0, CB_TEST_EQUAL, &nine, 1).number == number);
+        EXPECT(cb_match_input(NULL, 0, 0, coming_3, ROW_3, 3, 0, l, NULL, 0, CB_TEST_EQUAL, &nine, 1).number == number);
+        EXPECT(cb_match_lookahead(NULL, 0, 0, coming_3, ROW_3, 3, 0, 1, l, NULL, 0, CB_TEST_EQUAL, &nine, 1).number == number);
+        EXPECT(cb_match_backtrack(coming_3, ROW_3, 2, coming_3, ROW_3, 3, 2, l, NULL, 0, CB_TEST_EQUAL, &nine, 1).number == number);
     }
     card("-", "each field of a lookup turns a matcher's answer");
 }
@@ -342,7 +350,7 @@ static void put_sign(uint32_t *row, size_t place, size_t k) {
 static void lay_out(size_t d) {
     for (size_t i = 0; i < CB_RUN_WORDS; i++) done[i] = coming[i] = 0xA5A5A5A5;
     for (size_t i = 0; i < d; i++) put_sign(done, i, i);
-    for (size_t k = 0; k < 3; k++) put_sign(coming, 1021 + k, k);
+    for (size_t k = 0; k < 3; k++) put_sign(coming, CURSOR + k, k);
 }
 
 static void keep_rows(void) {
@@ -380,11 +388,11 @@ static cb_switches switches(void) {
 /* signs 0, 1, 2 matched whole */
 static cb_matched matched(size_t d) {
     static const uint32_t values[2] = {2, 3};
-    return cb_match_input(done, CB_RUN_WORDS, d, coming, CB_RUN_WORDS, CB_LIMIT, 1021, plain(0), NULL, 0, CB_TEST_EQUAL, values, 2);
+    return cb_match_input(done, CB_RUN_WORDS, d, coming, CB_RUN_WORDS, CB_LIMIT, CURSOR, plain(0), NULL, 0, CB_TEST_EQUAL, values, 2);
 }
 
 static cb_ran run(size_t d, const uint16_t *book, size_t book_len, uint32_t allowance, size_t depth) {
-    return cb_run(done, CB_RUN_WORDS, coming, CB_RUN_WORDS, d, 1021, NULL, 0, book, book_len, record_1_0, 2, matched(d), switches(),
+    return cb_run(done, CB_RUN_WORDS, coming, CB_RUN_WORDS, d, CURSOR, NULL, 0, book, book_len, record_1_0, 2, matched(d), switches(),
                   allowance, depth);
 }
 
@@ -400,31 +408,32 @@ static const size_t of_012[3] = {0, 1, 2}, of_0112[4] = {0, 1, 1, 2}, of_02[2] =
 
 static void run_cards(void) {
     lay_out(0);
-    EXPECT(is_ran(run(0, doubles, 8, 1, 1), CB_ENDING_FINISHED, 1, 4, 1024, 4, 0));
+    EXPECT(is_ran(run(0, doubles, 8, 1, 1), CB_ENDING_FINISHED, 1, 4, CB_LIMIT, 4, 0));
     EXPECT(is_text(0, 4, ids_1223, of_0112, 4));
     card("K11", "ids 1, 2, 3 matched whole, lookup 0 turns 2 into 2, 2: text 1, 2, 2, 3, positions 0 to 3, d 4, spent 1");
     lay_out(0);
-    EXPECT(is_ran(run(0, doubles, 8, 0, 1), CB_ENDING_SHORT, 0, 3, 1024, 3, 0));
+    EXPECT(is_ran(run(0, doubles, 8, 0, 1), CB_ENDING_SHORT, 0, 3, CB_LIMIT, 3, 0));
     EXPECT(is_text(0, 3, ids_123, of_012, 3));
     card("K12", "as K11 with allowance 0: Short, text 1, 2, 3, d 3");
     lay_out(0);
-    EXPECT(is_ran(run(0, deletes, 6, 1, 1), CB_ENDING_FINISHED, 1, 2, 1024, 2, 0));
+    EXPECT(is_ran(run(0, deletes, 6, 1, 1), CB_ENDING_FINISHED, 1, 2, CB_LIMIT, 2, 0));
     EXPECT(is_text(0, 2, ids_13, of_02, 2));
     card("K13", "as K11, 2 into nothing: text 1, 3, positions 0, 1, d 2");
     lay_out(0);
-    EXPECT(is_ran(run(0, doubles, 8, 1, 0), CB_ENDING_DEEP, 0, 1, 1022, 3, 0));
+    EXPECT(is_ran(run(0, doubles, 8, 1, 0), CB_ENDING_DEEP, 0, 1, CURSOR + 1, 3, 0));
     EXPECT(is_text(0, 3, ids_123, of_012, 1));
     lay_out(0);
-    EXPECT(is_ran(run(0, doubles, 8, 0, 0), CB_ENDING_SHORT, 0, 3, 1024, 3, 0));
+    EXPECT(is_ran(run(0, doubles, 8, 0, 0), CB_ENDING_SHORT, 0, 3, CB_LIMIT, 3, 0));
     EXPECT(is_text(0, 3, ids_123, of_012, 3));
     card("K14", "as K11 with allowance 1, depth 0: Deep; 0 and 0: Short");
-    lay_out(1021);
-    EXPECT(is_ran(run(1021, doubles, 8, 1, 1), CB_ENDING_FULL, 1, 1022, 1022, 3, 1021));
-    EXPECT(is_text(1021, 3, ids_123, of_012, 1022));
-    lay_out(1020);
-    EXPECT(is_ran(run(1020, doubles, 8, 1, 1), CB_ENDING_FINISHED, 1, 1024, 1024, 4, 1020));
-    EXPECT(is_text(1020, 4, ids_1223, of_0112, 1024));
-    card("-", "as K11 behind 1,021 glyphs: Full, and nothing of the result is written; behind 1,020 it fits");
+    const size_t most = CB_LIMIT - 3, fewer = most - 1;
+    lay_out(most);
+    EXPECT(is_ran(run(most, doubles, 8, 1, 1), CB_ENDING_FULL, 1, most + 1, CURSOR + 1, 3, most));
+    EXPECT(is_text(most, 3, ids_123, of_012, most + 1));
+    lay_out(fewer);
+    EXPECT(is_ran(run(fewer, doubles, 8, 1, 1), CB_ENDING_FINISHED, 1, CB_LIMIT, CB_LIMIT, 4, fewer));
+    EXPECT(is_text(fewer, 4, ids_1223, of_0112, CB_LIMIT));
+    card("-", "as K11 behind as many glyphs as the limit leaves: Full, and nothing of the result is written; behind one fewer it fits");
 }
 
 /* over 1, 2, 3, of which 2 has this word 2: whether lookup 0, a chain, let its record turn the glyph at a place into 9 */
@@ -432,10 +441,10 @@ static bool is_chained(const uint16_t *book, size_t place, uint32_t word_2, cb_s
     static const uint16_t record_0_0[2] = {0, 0};
     lay_out(0);
     cb_matched m = matched(0);
-    coming[CB_WORDS * 1022 + 2] = word_2;
-    cb_ran r = cb_run(done, CB_RUN_WORDS, coming, CB_RUN_WORDS, 0, 1021, NULL, 0, book, 18, record_0_0, 2, m, s, 9, 9);
+    coming[CB_WORDS * (CURSOR + 1) + 2] = word_2;
+    cb_ran r = cb_run(done, CB_RUN_WORDS, coming, CB_RUN_WORDS, 0, CURSOR, NULL, 0, book, 18, record_0_0, 2, m, s, 9, 9);
     bool chained = done[CB_WORDS * place] == 9;
-    EXPECT(is_ran(r, CB_ENDING_FINISHED, chained ? 2 : 1, 3, 1024, 3, 0));
+    EXPECT(is_ran(r, CB_ENDING_FINISHED, chained ? 2 : 1, 3, CB_LIMIT, 3, 0));
     return chained;
 }
 
@@ -464,41 +473,41 @@ static void chain_card(void) {
 
 static void shape_card(void) {
     static const uint16_t odd[1] = {0};
-    static uint32_t long_row[CB_RUN_WORDS + 4];
+    static uint32_t long_row[CB_RUN_WORDS + CB_WORDS];
     cb_lookup l = plain(0);
     cb_sought any = sought(CB_TEST_ANY, 0, 0);
     five_nine_seven(0);
-    EXPECT(is_said(cb_may_skip(coming_3, 11, 0, l, false, NULL, 0), CB_REFUSAL_SHAPE, 0));
-    EXPECT(is_said(cb_may_skip(coming_3, 12, 0, l, false, odd, 1), CB_REFUSAL_SHAPE, 0));
-    EXPECT(is_said(cb_may_match(coming_3, 12, 3, l, false, any), CB_REFUSAL_SHAPE, 0));
-    EXPECT(is_said(cb_verdict(long_row, CB_RUN_WORDS + 4, 0, l, false, any, NULL, 0), CB_REFUSAL_SHAPE, 0));
-    EXPECT(is_step(cb_forward(coming_3, 12, 4, 0, l, false, any, NULL, 0), CB_REFUSAL_SHAPE, false, 0));
-    EXPECT(is_step(cb_forward(coming_3, 12, 2, 3, l, false, any, NULL, 0), CB_REFUSAL_SHAPE, false, 0));
-    EXPECT(is_step(cb_backward(coming_3, 12, 4, l, false, any, NULL, 0), CB_REFUSAL_SHAPE, false, 0));
-    EXPECT(is_bare(cb_match_input(coming_3, 12, 4, coming_3, 12, 3, 0, l, NULL, 0, CB_TEST_ANY, NULL, 0), CB_REFUSAL_SHAPE, 0));
-    EXPECT(is_placed(cb_match_lookahead(NULL, 0, 0, coming_3, 12, 3, 0, 4, l, NULL, 0, CB_TEST_ANY, NULL, 0), CB_REFUSAL_SHAPE, 0));
-    EXPECT(is_placed(cb_match_backtrack(NULL, 0, 0, coming_3, 12, 3, 0, l, odd, 1, CB_TEST_ANY, NULL, 0), CB_REFUSAL_SHAPE, 0));
+    EXPECT(is_said(cb_may_skip(coming_3, ROW_3 - 1, 0, l, false, NULL, 0), CB_REFUSAL_SHAPE, 0));
+    EXPECT(is_said(cb_may_skip(coming_3, ROW_3, 0, l, false, odd, 1), CB_REFUSAL_SHAPE, 0));
+    EXPECT(is_said(cb_may_match(coming_3, ROW_3, 3, l, false, any), CB_REFUSAL_SHAPE, 0));
+    EXPECT(is_said(cb_verdict(long_row, CB_RUN_WORDS + CB_WORDS, 0, l, false, any, NULL, 0), CB_REFUSAL_SHAPE, 0));
+    EXPECT(is_step(cb_forward(coming_3, ROW_3, 4, 0, l, false, any, NULL, 0), CB_REFUSAL_SHAPE, false, 0));
+    EXPECT(is_step(cb_forward(coming_3, ROW_3, 2, 3, l, false, any, NULL, 0), CB_REFUSAL_SHAPE, false, 0));
+    EXPECT(is_step(cb_backward(coming_3, ROW_3, 4, l, false, any, NULL, 0), CB_REFUSAL_SHAPE, false, 0));
+    EXPECT(is_bare(cb_match_input(coming_3, ROW_3, 4, coming_3, ROW_3, 3, 0, l, NULL, 0, CB_TEST_ANY, NULL, 0), CB_REFUSAL_SHAPE, 0));
+    EXPECT(is_placed(cb_match_lookahead(NULL, 0, 0, coming_3, ROW_3, 3, 0, 4, l, NULL, 0, CB_TEST_ANY, NULL, 0), CB_REFUSAL_SHAPE, 0));
+    EXPECT(is_placed(cb_match_backtrack(NULL, 0, 0, coming_3, ROW_3, 3, 0, l, odd, 1, CB_TEST_ANY, NULL, 0), CB_REFUSAL_SHAPE, 0));
     card("1", "rows, places, lengths and mark sets that are out of shape");
 }
 
 static void matcher_refusal_cards(void) {
     static uint32_t values[65];
     cb_lookup l = plain(0);
-    EXPECT(is_bare(cb_match_input(NULL, 0, 0, coming_3, 12, 3, 3, l, NULL, 0, CB_TEST_ANY, NULL, 0), CB_REFUSAL_CURSOR, 0));
-    EXPECT(is_placed(cb_match_lookahead(NULL, 0, 0, coming_3, 12, 3, 3, 0, l, NULL, 0, CB_TEST_ANY, NULL, 0), CB_REFUSAL_CURSOR, 0));
-    EXPECT(is_placed(cb_match_backtrack(NULL, 0, 0, coming_3, 12, 3, 3, l, NULL, 0, CB_TEST_ANY, NULL, 0), CB_REFUSAL_CURSOR, 0));
+    EXPECT(is_bare(cb_match_input(NULL, 0, 0, coming_3, ROW_3, 3, 3, l, NULL, 0, CB_TEST_ANY, NULL, 0), CB_REFUSAL_CURSOR, 0));
+    EXPECT(is_placed(cb_match_lookahead(NULL, 0, 0, coming_3, ROW_3, 3, 3, 0, l, NULL, 0, CB_TEST_ANY, NULL, 0), CB_REFUSAL_CURSOR, 0));
+    EXPECT(is_placed(cb_match_backtrack(NULL, 0, 0, coming_3, ROW_3, 3, 3, l, NULL, 0, CB_TEST_ANY, NULL, 0), CB_REFUSAL_CURSOR, 0));
     card("2", "a cursor at the end, also with no values");
-    EXPECT(is_placed(cb_match_lookahead(NULL, 0, 0, coming_3, 12, 3, 0, 0, l, NULL, 0, CB_TEST_ANY, values, 65), CB_REFUSAL_VALUES, 0));
-    EXPECT(is_placed(cb_match_lookahead(NULL, 0, 0, coming_3, 12, 3, 0, 1, l, NULL, 0, CB_TEST_ANY, values, 64), CB_LOST, 3));
-    EXPECT(is_placed(cb_match_backtrack(NULL, 0, 0, coming_3, 12, 3, 0, l, NULL, 0, CB_TEST_ANY, values, 65), CB_REFUSAL_VALUES, 0));
-    EXPECT(is_placed(cb_match_backtrack(NULL, 0, 0, coming_3, 12, 3, 0, l, NULL, 0, CB_TEST_ANY, values, 64), CB_LOST, 0));
+    EXPECT(is_placed(cb_match_lookahead(NULL, 0, 0, coming_3, ROW_3, 3, 0, 0, l, NULL, 0, CB_TEST_ANY, values, 65), CB_REFUSAL_VALUES, 0));
+    EXPECT(is_placed(cb_match_lookahead(NULL, 0, 0, coming_3, ROW_3, 3, 0, 1, l, NULL, 0, CB_TEST_ANY, values, 64), CB_LOST, 3));
+    EXPECT(is_placed(cb_match_backtrack(NULL, 0, 0, coming_3, ROW_3, 3, 0, l, NULL, 0, CB_TEST_ANY, values, 65), CB_REFUSAL_VALUES, 0));
+    EXPECT(is_placed(cb_match_backtrack(NULL, 0, 0, coming_3, ROW_3, 3, 0, l, NULL, 0, CB_TEST_ANY, values, 64), CB_LOST, 0));
     card("3", "65 values of context; 64 are taken (4: the walks run out)");
     put(coming_3, 1, 9, 1, 0, CB_WORD_3(3, 1, 1, 1));
     EXPECT(is_bare(input(coming_3, 3, 0, 9), CB_LIGATURE, 0));
     put(coming_3, 0, 5, 1, 0, CB_WORD_3(3, 0, 1, 1));
     EXPECT(input(coming_3, 3, 0, 9).number == CB_MATCHED);
     card("5", "a glyph attached to another ligature; to the first one's own it joins");
-    EXPECT(is_placed(cb_match_lookahead(NULL, 0, 0, coming_3, 12, 3, 0, 0, l, NULL, 0, CB_TEST_ANY, NULL, 0), CB_REFUSAL_START, 0));
+    EXPECT(is_placed(cb_match_lookahead(NULL, 0, 0, coming_3, ROW_3, 3, 0, 0, l, NULL, 0, CB_TEST_ANY, NULL, 0), CB_REFUSAL_START, 0));
     card("6", "a lookahead start of 0, also with no values");
 }
 
@@ -517,26 +526,26 @@ static void run_refusal_cards(void) {
     keep_rows();
     cb_matched good = matched(0), bad = good;
     bad.positions[2] = bad.positions[1];
-    refused_run(CB_REFUSAL_SHAPE, 4092, 1024, 7, 2, bad, 0x80000000, 1);
-    refused_run(CB_REFUSAL_SHAPE, 4096, 1024, 7, 3, bad, 0x80000000, 1);
-    refused_run(CB_REFUSAL_SHAPE, 4096, 1024, 7, 34, bad, 0x80000000, 1);
-    refused_run(CB_REFUSAL_CURSOR, 4096, 1024, 7, 2, bad, 0x80000000, 1);
-    refused_run(CB_REFUSAL_LIMITS, 4096, 1021, 7, 2, bad, 0x80000000, 1);
-    refused_run(CB_REFUSAL_LIMITS, 4096, 1021, 7, 2, bad, CB_MAX_ALLOWANCE, CB_MAX_DEPTH + 1);
+    refused_run(CB_REFUSAL_SHAPE, CB_RUN_WORDS - CB_WORDS, CB_LIMIT, 7, 2, bad, 0x80000000, 1);
+    refused_run(CB_REFUSAL_SHAPE, CB_RUN_WORDS, CB_LIMIT, 7, 3, bad, 0x80000000, 1);
+    refused_run(CB_REFUSAL_SHAPE, CB_RUN_WORDS, CB_LIMIT, 7, 34, bad, 0x80000000, 1);
+    refused_run(CB_REFUSAL_CURSOR, CB_RUN_WORDS, CB_LIMIT, 7, 2, bad, 0x80000000, 1);
+    refused_run(CB_REFUSAL_LIMITS, CB_RUN_WORDS, CURSOR, 7, 2, bad, 0x80000000, 1);
+    refused_run(CB_REFUSAL_LIMITS, CB_RUN_WORDS, CURSOR, 7, 2, bad, CB_MAX_ALLOWANCE, CB_MAX_DEPTH + 1);
     card("12", "runs that are wrong in everything: first 1, then 2, then 12; no word changed");
-    refused_run(CB_REFUSAL_BOOK, 4096, 1021, 7, 2, bad, CB_MAX_ALLOWANCE, CB_MAX_DEPTH);
+    refused_run(CB_REFUSAL_BOOK, CB_RUN_WORDS, CURSOR, 7, 2, bad, CB_MAX_ALLOWANCE, CB_MAX_DEPTH);
     card("11", "a book that doesn't read");
-    refused_run(CB_REFUSAL_MATCH, 4096, 1021, 8, 2, bad, CB_MAX_ALLOWANCE, CB_MAX_DEPTH);
+    refused_run(CB_REFUSAL_MATCH, CB_RUN_WORDS, CURSOR, 8, 2, bad, CB_MAX_ALLOWANCE, CB_MAX_DEPTH);
     bad = good;
     bad.number = CB_LOST;
-    refused_run(CB_REFUSAL_MATCH, 4096, 1021, 8, 2, bad, 1, 1);
+    refused_run(CB_REFUSAL_MATCH, CB_RUN_WORDS, CURSOR, 8, 2, bad, 1, 1);
     bad = good;
-    bad.end = 1023;
-    refused_run(CB_REFUSAL_MATCH, 4096, 1021, 8, 2, bad, 1, 1);
+    bad.end = CB_LIMIT - 1;
+    refused_run(CB_REFUSAL_MATCH, CB_RUN_WORDS, CURSOR, 8, 2, bad, 1, 1);
     bad = good;
     bad.count = 65;
-    refused_run(CB_REFUSAL_MATCH, 4096, 1021, 8, 2, bad, 1, 1);
-    refused_run(CB_REFUSAL_MATCH, 4096, 1020, 8, 2, good, 1, 1);
+    refused_run(CB_REFUSAL_MATCH, CB_RUN_WORDS, CURSOR, 8, 2, bad, 1, 1);
+    refused_run(CB_REFUSAL_MATCH, CB_RUN_WORDS, CURSOR - 1, 8, 2, good, 1, 1);
     card("7", "positions that don't rise, no success, an end before a position, 65 positions, another cursor");
     EXPECT(run(0, doubles, 8, CB_MAX_ALLOWANCE, CB_MAX_DEPTH).number == CB_ENDING_FINISHED);
     card("-", "the largest allowance and depth are taken");
@@ -580,26 +589,26 @@ static void other_examples(void) {
     EXPECT(is_left(left, 10, 100) && !cb_budget_work(left, 11) && is_left(left, 10, 100));
     EXPECT(cb_budget_alloc(left, 25, 4) && is_left(left, 10, 0));
 
-    uint32_t row[4] = {9, 1, CB_WORD_2(0, 0, CB_PROPS_MARK), 257};
+    uint32_t row[CB_WORDS] = {9, 1, CB_WORD_2(0, 0, CB_PROPS_MARK), ONE};
     cb_lookup l = {false, false, false, false, 1, CB_IGNORE_MARKS};
     cb_sought s = {CB_TEST_EQUAL, 0, 9};
-    EXPECT(is_said(cb_may_skip(row, 4, 0, l, false, NULL, 0), 0, CB_MAY_SKIP_YES));
-    EXPECT(is_said(cb_may_match(row, 4, 0, l, false, s), 0, CB_MAY_MATCH_YES));
-    EXPECT(is_said(cb_verdict(row, 4, 0, l, false, s, NULL, 0), 0, CB_VERDICT_SKIP));
+    EXPECT(is_said(cb_may_skip(row, CB_WORDS, 0, l, false, NULL, 0), 0, CB_MAY_SKIP_YES));
+    EXPECT(is_said(cb_may_match(row, CB_WORDS, 0, l, false, s), 0, CB_MAY_MATCH_YES));
+    EXPECT(is_said(cb_verdict(row, CB_WORDS, 0, l, false, s, NULL, 0), 0, CB_VERDICT_SKIP));
     five_nine_seven(MARK);
     s.value = 7;
-    EXPECT(is_step(cb_forward(coming_3, 12, 3, 0, l, false, s, NULL, 0), 0, false, 2));
+    EXPECT(is_step(cb_forward(coming_3, ROW_3, 3, 0, l, false, s, NULL, 0), 0, false, 2));
     s.value = 5;
-    EXPECT(is_step(cb_backward(coming_3, 12, 2, l, false, s, NULL, 0), 0, false, 0));
+    EXPECT(is_step(cb_backward(coming_3, ROW_3, 2, l, false, s, NULL, 0), 0, false, 0));
 
-    uint32_t before[4], text[8], v[1] = {7};
+    uint32_t before[CB_WORDS], text[CB_WORDS * 2], v[1] = {7};
     static const uint16_t at_0_1[2] = {0, 1};
     put(before, 0, 7, 1, 0, ONE);
     put(text, 0, 5, 1, 0, ONE);
     put(text, 1, 7, 1, 0, ONE);
-    EXPECT(is_matched(cb_match_input(NULL, 0, 0, text, 8, 2, 0, l, NULL, 0, CB_TEST_EQUAL, v, 1), 2, 2, 2, at_0_1));
-    EXPECT(is_placed(cb_match_lookahead(NULL, 0, 0, text, 8, 2, 0, 1, l, NULL, 0, CB_TEST_EQUAL, v, 1), 0, 2));
-    EXPECT(is_placed(cb_match_backtrack(before, 4, 1, text, 8, 2, 0, l, NULL, 0, CB_TEST_EQUAL, v, 1), 0, 0));
+    EXPECT(is_matched(cb_match_input(NULL, 0, 0, text, CB_WORDS * 2, 2, 0, l, NULL, 0, CB_TEST_EQUAL, v, 1), 2, 2, 2, at_0_1));
+    EXPECT(is_placed(cb_match_lookahead(NULL, 0, 0, text, CB_WORDS * 2, 2, 0, 1, l, NULL, 0, CB_TEST_EQUAL, v, 1), 0, 2));
+    EXPECT(is_placed(cb_match_backtrack(before, CB_WORDS, 1, text, CB_WORDS * 2, 2, 0, l, NULL, 0, CB_TEST_EQUAL, v, 1), 0, 0));
     EXPECT(cb_book_reads(doubles, 8)); /* and cb_run's is K11 */
 }
 

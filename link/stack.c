@@ -5,7 +5,7 @@
 
 #include "conchibaru.h"
 
-enum { ROOM = 1 << 20, PAINT = 0xA5 };
+enum { ROOM = 1 << 20, PAINT = 0xA5, CURSOR = CB_LIMIT - 3 }; /* the cursor stands at three glyphs that end the row */
 static uint32_t done[CB_RUN_WORDS], coming[CB_RUN_WORDS];
 
 /* Both have the same frame, in which the room lies below everything else; what is called between them comes to lie in it. */
@@ -26,17 +26,17 @@ static cb_ran run(size_t depth) {
     cb_switches switches = {false, false, false, 1};
     for (size_t i = 0; i < CB_RUN_WORDS; i++) done[i] = coming[i] = 0;
     for (size_t i = 0; i < 4; i++) {
-        uint32_t *glyph = i == 0 ? done : coming + CB_WORDS * (1020 + i);
+        uint32_t *glyph = i == 0 ? done : coming + CB_WORDS * (CURSOR + i - 1);
         glyph[0] = (uint32_t)i + 1;
         glyph[1] = 1;
         glyph[3] = 0x101;
     }
     matched.total = 2;
-    matched.end = 1023;
+    matched.end = CURSOR + 2;
     matched.count = 2;
-    matched.positions[0] = 1021;
-    matched.positions[1] = 1022;
-    return cb_run(done, CB_RUN_WORDS, coming, CB_RUN_WORDS, 1, 1021, NULL, 0, book, 14, records, 2, matched, switches, 4096, depth);
+    matched.positions[0] = CURSOR;
+    matched.positions[1] = CURSOR + 1;
+    return cb_run(done, CB_RUN_WORDS, coming, CB_RUN_WORDS, 1, CURSOR, NULL, 0, book, 14, records, 2, matched, switches, 4096, depth);
 }
 static cb_ran (*volatile runs)(size_t) = run;
 

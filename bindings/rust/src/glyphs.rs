@@ -104,19 +104,19 @@ pub fn row(glyphs: &[Glyph]) -> Vec<u32> {
 
 #[cfg(test)]
 mod tests {
-    use super::Glyph;
+    use super::{Glyph, WORDS};
 
-    /// Each byte of the four words is one field's, and comes back.
+    /// Each byte of the words is one field's, and comes back.
     #[test]
     fn any_words_are_a_glyph() {
-        for place in 0..16 {
-            let mut bytes = [0u8; 16];
-            bytes[place] = 0xA5;
-            let word = |i: usize| u32::from_be_bytes([bytes[4 * i], bytes[4 * i + 1], bytes[4 * i + 2], bytes[4 * i + 3]]);
-            let words = [word(0), word(1), word(2), word(3)];
-            let glyph = Glyph::from_words(words);
-            assert_ne!(glyph, Glyph::default());
-            assert_eq!(glyph.words(), words);
+        for word in 0..WORDS {
+            for byte in 0..4 {
+                let mut words = [0; WORDS];
+                words[word] = 0xA5 << (8 * byte);
+                let glyph = Glyph::from_words(words);
+                assert_ne!(glyph, Glyph::default());
+                assert_eq!(glyph.words(), words);
+            }
         }
     }
 }

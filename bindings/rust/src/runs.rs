@@ -1,10 +1,10 @@
 //! Runs of records over a text, and whether a book reads.
 use crate::c;
-use crate::{InputMatch, Refusal, MAX_CONTEXT_LENGTH};
+use crate::{InputMatch, Refusal, LIMIT, MAX_CONTEXT_LENGTH, WORDS};
 use std::fmt;
 
 /// Words of each row of a run, just as many.
-pub const RUN_WORDS: usize = 4096;
+pub const RUN_WORDS: usize = WORDS * LIMIT;
 
 /// Depth of a run, at most.
 pub const MAX_NESTING_LEVEL: usize = 64;
@@ -153,18 +153,19 @@ pub fn book_reads(book: &[u16]) -> bool {
 /// [`Refusal::Cursor`], [`Refusal::Limits`], [`Refusal::Book`], [`Refusal::Match`].
 ///
 /// ```
-/// use conchibaru::{match_input, row, run, Ending, Given, Glyph, Lookup, RunAnswer, Switches, Test, Text, RUN_WORDS};
+/// use conchibaru::{match_input, row, run, Ending, Given, Glyph, Lookup, RunAnswer, Switches, Test, Text, LIMIT, RUN_WORDS};
 ///
 /// // Card K11: ids 1, 2, 3 end the row and are matched whole; lookup 0 turns 2 into 2, 2.
 /// let three = row(&[Glyph::new(1), Glyph::new(2), Glyph::new(3)]);
 /// let (mut done, mut coming) = ([0; RUN_WORDS], [0; RUN_WORDS]);
 /// coming[RUN_WORDS - three.len()..].copy_from_slice(&three);
-/// let text = Text { done: &done, d: 0, idx: 1021, ..Text::coming(&coming) };
+/// let idx = LIMIT - 3;
+/// let text = Text { done: &done, d: 0, idx, ..Text::coming(&coming) };
 /// let matched = match_input(&text, &Lookup::default(), &[], Test::Equal, &[2, 3]);
 ///
 /// let book = [2, 0, 0, 4, 2, 2, 2, 2];
 /// let given = Given { sets: &[], book: &book, records: &[1, 0], matched, switches: Switches::default(), allowance: 1, depth: 1 };
-/// let RunAnswer::Ended(ran) = run(&mut done, &mut coming, 0, 1021, &given) else { panic!() };
+/// let RunAnswer::Ended(ran) = run(&mut done, &mut coming, 0, idx, &given) else { panic!() };
 /// assert_eq!((ran.ending, ran.spent, ran.d, ran.positions()), (Ending::Finished, 1, 4, &[0, 1, 2, 3][..]));
 /// let now = row(&[Glyph::new(1), Glyph::new(2), Glyph::new(2), Glyph::new(3)]);
 /// assert!(done.starts_with(&now) && coming.iter().all(|&word| word == 0));

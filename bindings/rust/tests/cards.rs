@@ -112,6 +112,8 @@ fn each_field_of_what_is_sought_is_read() {
 
 // ---- runs
 
+/// Where three glyphs that end a row begin: 1,021 in document 01.
+const CURSOR: usize = LIMIT - 3;
 const DOUBLES: [u16; 8] = [2, 0, 0, 4, 2, 2, 2, 2];
 const DELETES: [u16; 6] = [2, 0, 0, 2, 2, 0];
 
@@ -123,20 +125,20 @@ fn sign(id: u32) -> Glyph {
 /// Rows in which signs 1, 2, 3 end `coming` and every other cell holds something.
 fn laid_out() -> (Vec<u32>, Vec<u32>) {
     let (done, mut coming) = (vec![0xA5A5_A5A5; RUN_WORDS], vec![0xA5A5_A5A5; RUN_WORDS]);
-    coming[RUN_WORDS - 12..].copy_from_slice(&row(&[sign(1), sign(2), sign(3)]));
+    coming[WORDS * CURSOR..].copy_from_slice(&row(&[sign(1), sign(2), sign(3)]));
     (done, coming)
 }
 
 /// The rows of a text, 0 in every other cell.
 fn rows(done: &[Glyph], coming: &[Glyph]) -> (Vec<u32>, Vec<u32>) {
-    let (mut a, mut b) = (row(done), vec![0; RUN_WORDS - 4 * coming.len()]);
+    let (mut a, mut b) = (row(done), vec![0; RUN_WORDS - WORDS * coming.len()]);
     a.resize(RUN_WORDS, 0);
     b.extend(row(coming));
     (a, b)
 }
 
 fn three_matched(done: &[u32], coming: &[u32]) -> InputMatch {
-    let text = Text { done, d: 0, coming, len: 1024, idx: 1021 };
+    let text = Text { done, d: 0, coming, len: LIMIT, idx: CURSOR };
     match_input(&text, &Lookup::default(), &[], Test::Equal, &[2, 3])
 }
 
@@ -149,7 +151,7 @@ fn given(book: &[u16], matched: InputMatch, allowance: u32, depth: usize) -> Giv
 fn run_card(book: &[u16], allowance: u32, depth: usize, wanted: Run, text: (&[Glyph], &[Glyph])) {
     let (mut done, mut coming) = laid_out();
     let matched = three_matched(&done, &coming);
-    let answer = run(&mut done, &mut coming, 0, 1021, &given(book, matched, allowance, depth));
+    let answer = run(&mut done, &mut coming, 0, CURSOR, &given(book, matched, allowance, depth));
     assert_eq!(answer, RunAnswer::Ended(wanted));
     assert_eq!((done, coming), rows(text.0, text.1));
 }
@@ -163,23 +165,24 @@ fn ran(ending: Ending, spent: u32, d: usize, idx: usize, count: usize) -> Run {
 #[test]
 fn k11_to_k14_runs() {
     let (one, two, three) = (sign(1), sign(2), sign(3));
-    run_card(&DOUBLES, 1, 1, ran(Ending::Finished, 1, 4, 1024, 4), (&[one, two, two, three], &[]));
-    run_card(&DOUBLES, 0, 1, ran(Ending::Short, 0, 3, 1024, 3), (&[one, two, three], &[]));
-    run_card(&DELETES, 1, 1, ran(Ending::Finished, 1, 2, 1024, 2), (&[one, three], &[]));
-    run_card(&DOUBLES, 1, 0, ran(Ending::Deep, 0, 1, 1022, 3), (&[one], &[two, three]));
-    run_card(&DOUBLES, 0, 0, ran(Ending::Short, 0, 3, 1024, 3), (&[one, two, three], &[]));
+    run_card(&DOUBLES, 1, 1, ran(Ending::Finished, 1, 4, LIMIT, 4), (&[one, two, two, three], &[]));
+    run_card(&DOUBLES, 0, 1, ran(Ending::Short, 0, 3, LIMIT, 3), (&[one, two, three], &[]));
+    run_card(&DELETES, 1, 1, ran(Ending::Finished, 1, 2, LIMIT, 2), (&[one, three], &[]));
+    run_card(&DOUBLES, 1, 0, ran(Ending::Deep, 0, 1, CURSOR + 1, 3), (&[one], &[two, three]));
+    run_card(&DOUBLES, 0, 0, ran(Ending::Short, 0, 3, LIMIT, 3), (&[one, two, three], &[]));
 }
 
 #[test]
 fn full_writes_nothing_of_the_result() {
-    let before: Vec<Glyph> = (0..1021).map(|i| sign(10 + i)).collect();
+    // As many glyphs before the three as the limit leaves.
+    let most = LIMIT - 3;
+    let before: Vec<Glyph> = (0..most).map(|i| sign(10 + i as u32)).collect();
     let (_, mut coming) = laid_out();
     let mut done = rows(&before, &[]).0;
     let matched = three_matched(&done, &coming);
-    let answer = run(&mut done, &mut coming, 1021, 1021, &given(&DOUBLES, matched, 1, 1));
-    assert!(
-        matches!(answer, RunAnswer::Ended(r) if r.ending == Ending::Full && r.positions() == [1021, 1022, 1023] && r.spent == 1)
-    );
+    let answer = run(&mut done, &mut coming, most, CURSOR, &given(&DOUBLES, matched, 1, 1));
+    let positions = [most, most + 1, most + 2].map(|place| place as u16);
+    assert!(matches!(answer, RunAnswer::Ended(r) if r.ending == Ending::Full && r.positions() == positions && r.spent == 1));
     let now = [&before[..], &[sign(1)]].concat();
     assert_eq!((done, coming), rows(&now, &[sign(2), sign(3)]));
 }
@@ -198,18 +201,18 @@ fn refused_runs_change_no_word() {
     };
     // Wrong in everything; then one thing after another is put right.
     let mut bad = Given { records: &[1], matched: InputMatch::Lost(2), book: &DOUBLES[..7], depth: 65, ..given };
-    assert_eq!(refused(4092, 1024, bad).number(), 1);
-    assert_eq!(refused(4096, 1024, bad), Refusal::Shape);
+    assert_eq!(refused(RUN_WORDS - WORDS, LIMIT, bad).number(), 1);
+    assert_eq!(refused(RUN_WORDS, LIMIT, bad), Refusal::Shape);
     bad.records = &[1, 0];
-    assert_eq!(refused(4096, 1024, bad), Refusal::Cursor);
-    assert_eq!(refused(4096, 1021, bad), Refusal::Limits);
-    assert_eq!(refused(4096, 1021, Given { depth: 1, allowance: MOST_ALLOWANCE + 1, ..bad }), Refusal::Limits);
+    assert_eq!(refused(RUN_WORDS, LIMIT, bad), Refusal::Cursor);
+    assert_eq!(refused(RUN_WORDS, CURSOR, bad), Refusal::Limits);
+    assert_eq!(refused(RUN_WORDS, CURSOR, Given { depth: 1, allowance: MOST_ALLOWANCE + 1, ..bad }), Refusal::Limits);
     bad.depth = MAX_NESTING_LEVEL;
-    assert_eq!(refused(4096, 1021, bad), Refusal::Book);
+    assert_eq!(refused(RUN_WORDS, CURSOR, bad), Refusal::Book);
     bad.book = &DOUBLES;
-    assert_eq!(refused(4096, 1021, bad), Refusal::Match);
-    assert_eq!(refused(4096, 1021, Given { matched: InputMatch::Ligature, ..given }), Refusal::Match);
-    assert_eq!(refused(4096, 1020, given), Refusal::Match);
+    assert_eq!(refused(RUN_WORDS, CURSOR, bad), Refusal::Match);
+    assert_eq!(refused(RUN_WORDS, CURSOR, Given { matched: InputMatch::Ligature, ..given }), Refusal::Match);
+    assert_eq!(refused(RUN_WORDS, CURSOR - 1, given), Refusal::Match);
     assert_eq!((done, coming), (done_before, coming_before));
 }
 

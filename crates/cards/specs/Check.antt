@@ -1,10 +1,11 @@
--- Every card in one check: the definitions give what the paper says. And every example beside them in another (01, "Bench cards": "by one check over one list").
+-- Every card in one check: the definitions give what the paper says. And every example beside them in another
+-- (01, "Bench cards": "by one check over one list").
 use mathlib.Core.List.{List, map}
 use mathlib.Core.Path.{_≡_, refl}
 use Prim.Native.Nat.{ℕ}
 use Rattle.bits.specs.Bits.{every, some}
 use Rattle.digest.specs.Digest.{ranged}
-use Rattle.glyph.specs.Glyph.{blank, limit, glyphs, glyphsOf, illShaped}
+use Rattle.glyph.specs.Glyph.{wordsOf, blank, limit, glyphs, glyphsOf, illShaped}
 use Rattle.glyph.specs.Sets.{inSet}
 use Rattle.verdict.specs.Matcher.{inputMatcher, contextMatcher, matcherOf}
 use Rattle.verdict.specs.Verdict.{skipYes, ignorable, skipOf, ruledOut, matchOf, verdict}
@@ -32,9 +33,13 @@ abbrev pub wanted : Card → List (List ℕ)
 wanted c = c .wanted
 
 pub all-cards : map given cards ≡ map wanted cards
-unfolding every some ranged masksOf bitsBelow blank inSet inputMatcher contextMatcher matcherOf skipYes ignorable skipOf ruledOut matchOf verdict walk walkFrom takes reached mayJoin baseBefore baseSkips inputBy inputOn ligated limit glyphs glyphsOf illShaped badText inputFit inputOf withId recordsOf counted bodyOf firstOf readLookups readBook lookupAt following gained lost grownBy shrunkBy repaired deedBy triedBy recordsBy closed chainRun checkedFirst checkedAll risesTo
+unfolding every some ranged masksOf bitsBelow wordsOf blank inSet inputMatcher contextMatcher matcherOf skipYes ignorable skipOf ruledOut
+    matchOf verdict walk walkFrom takes reached mayJoin baseBefore baseSkips inputBy inputOn ligated limit glyphs glyphsOf illShaped badText
+    inputFit inputOf withId recordsOf counted bodyOf firstOf readLookups readBook lookupAt following gained lost grownBy shrunkBy repaired
+    deedBy triedBy recordsBy closed chainRun checkedFirst checkedAll risesTo
 all-cards = refl
 
 pub all-examples : map given examples ≡ map wanted examples
-unfolding blank inSet inputMatcher contextMatcher matcherOf skipYes ignorable skipOf ruledOut matchOf verdict walk walkFrom walkBack takes reached mayJoin baseBefore baseSkips inputBy inputOn aheadOn backOn ligated
+unfolding blank inSet inputMatcher contextMatcher matcherOf skipYes ignorable skipOf ruledOut matchOf verdict walk walkFrom walkBack takes
+    reached mayJoin baseBefore baseSkips inputBy inputOn aheadOn backOn ligated
 all-examples = refl

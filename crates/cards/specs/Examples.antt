@@ -13,6 +13,7 @@ use Rattle.matching.specs.Take.{ahead, behind}
 use Rattle.matching.specs.Matchers.{inputOn, aheadOn, backOn}
 use Rattle.matching.specs.Answers.{inputTold, contextTold, inputReply, contextReply}
 use Rattle.cards.specs.Card.{Card}
+use Rattle.cards.specs.Signs.{glyph}
 
 abbrev lookup : Table → ℕ → Lookup
 lookup table props = record { settings = record { table = table; zwnj = false; zwj = false; syllables = false }; mask = 1; props = props }
@@ -21,14 +22,14 @@ abbrev spelled : Reply → List (List ℕ)
 spelled r = (r .number ∷ []) ∷ r .values ∷ []
 
 abbrev letter : ℕ → Glyph
-letter id = record { id = id; mask = 1; flags = 0; syllable = 0; props = 0; lig = 0; comp = 0; count = 1; ligated = 1 }
+letter id = glyph id 0 0 0 0 1
 
 -- a mark attached to a component of a ligature, and the ligature
 abbrev mark : ℕ → ℕ → ℕ → Glyph
-mark id lig comp = record { id = id; mask = 1; flags = 0; syllable = 0; props = 8; lig = lig; comp = comp; count = 1; ligated = 1 }
+mark id lig comp = glyph id 0 8 lig comp 1
 
 abbrev ligature : ℕ → Glyph
-ligature lig = record { id = 40; mask = 1; flags = 0; syllable = 0; props = 4; lig = lig; comp = 0; count = 3; ligated = 3 }
+ligature lig = glyph 40 0 4 lig 0 3
 
 abbrev lookahead : List Glyph → ℕ → List ℕ → List (List ℕ)
 lookahead text start values = spelled (contextReply (contextTold (ahead (length text)) start (aheadOn (lookup Gsub 0) [] equalTo text start 0 values)))

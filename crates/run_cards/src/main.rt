@@ -7,12 +7,27 @@ use verdict::Settings;
 use verdict::Table;
 use verdict::Test;
 
+// The words of two glyphs.
+const ROW: usize = 2 * glyph::WORDS;
+
 fn main() {
-    let row = [5u32, 1, 0, 257, 7, 1, 0, 257];
+    let row = two();
     let seven = [7u32; 64];
     say(b"K15, no values:", on(&row, &seven[0..0]));
     say(b"K15, 63 values:", on(&row, &seven[0..63]));
     say(b"K15, 64 values:", on(&row, &seven[0..64]));
+}
+
+// Glyphs 5 and 7, of mask 1 and one component each; every other word is 0.
+fn two() -> [u32; ROW] {
+    let mut row = [0; ROW];
+    row[0] = 5;
+    row[1] = 1;
+    row[3] = 257;
+    row[glyph::WORDS] = 7;
+    row[glyph::WORDS + 1] = 1;
+    row[glyph::WORDS + 3] = 257;
+    row
 }
 
 // GSUB, settings off, mask 1, the cursor at 0, nothing done.
