@@ -12,7 +12,7 @@ use Rattle.book.specs.Places.{partOf, chainOf}
 use Rattle.runs.specs.declared.Given.{Given}
 use Rattle.runs.specs.Repair.{Level}
 use Rattle.runs.specs.Run.{Match, Matched, Unmatched}
-use Rattle.runs.specs.Chain.{chainMatch}
+use Rattle.runs.specs.Chain.{chainBy}
 use Rattle.runs.specs.Deeds.{idsOf}
 use Rattle.levels.specs.Slots.{shown}
 use Rattle.aims.specs.declared.Aim.{Aim}
@@ -45,7 +45,7 @@ byId = record { backtrack = Test.Equal; input = Test.Equal; lookahead = Test.Equ
 
 -- the chain of an entry
 abbrev pub aimedAt : Given → List ℕ → List ℕ → Entry → Text → Aim
-aimedAt given sets ws (Entry.Chain props parts) t = aimAt (parts .records) (chainMatch given sets props (idsOf (chainOf ws parts)) t)
+aimedAt given sets ws (Entry.Chain props parts) t = aimAt (parts .records) (chainBy given sets props (idsOf (chainOf ws parts)) t)
 aimedAt given sets ws (Entry.One props from to) t = noAim
 aimedAt given sets ws (Entry.Many props from ids) t = noAim
 aimedAt given sets ws Entry.Missing t = noAim

@@ -29,7 +29,7 @@ use Rattle.book.specs.Widened.{widened-values}
 use Rattle.runs.specs.declared.Given.{Given}
 use Rattle.runs.specs.Repair.{Level}
 use Rattle.runs.specs.Run.{Matched, Unmatched, movedLevel}
-use Rattle.runs.specs.Chain.{asks, isTaken, itself, inputAt, afterInput, chainAt}
+use Rattle.runs.specs.Chain.{asks, isTaken, itself, inputAt, afterInput, chainMatch}
 use Rattle.levels.specs.declared.Slots.{Slots}
 use Rattle.levels.specs.Slots.{shown}
 use Rattle.aims.specs.declared.Aim.{Aim}
@@ -81,19 +81,19 @@ module _ (q : Question) (sets : List ℕ) (test : ℕ → Asked) (C : List Glyph
 module _ (done coming : List ℕ) (p : Place) (f : Fits done coming p) (q : Question) (sets : List ℕ) (k : Chain Asked) (records : Part)
     (g : Glyph) (is : g ≡ getD (glyphsOf coming) (p .idx) blank) where
   abbrev pub told : Aim
-  told = aimAt records (chainAt q sets (textOf done coming p) k)
+  told = aimAt records (chainMatch q sets (textOf done coming p) k)
 
   first-is : isYes (k .first (getD (textOf done coming p .glyphs) (p .d) blank)) ≡ isYes (k .first g)
   first-is = ap (λ (x : Glyph). isYes (k .first x)) (at-cursor f ∙ sym is)
 
   pub aim-other : isYes (k .first g) ≡ false → noAim ≡ told
-  unfolding chainAt
+  unfolding chainMatch
   aim-other n = rw (first-is, n)
 
   module _ (same : isYes (k .first g) ≡ true) (m : InputMatch)
       (m-is : m ≡ inputTold (glyphsOf coming) (p .idx) (inputOn q sets itself (take (p .d) (glyphsOf done)) (glyphsOf coming) (p .idx) (k .input))) where
-    matched-is : chainAt q sets (textOf done coming p) k ≡ afterInput q sets (textOf done coming p) k (inputAt q sets (textOf done coming p) (k .input))
-    unfolding chainAt
+    matched-is : chainMatch q sets (textOf done coming p) k ≡ afterInput q sets (textOf done coming p) k (inputAt q sets (textOf done coming p) (k .input))
+    unfolding chainMatch
     matched-is = rw (first-is, same)
 
     pub aim-lost : isMatched (m .answer) ≡ false → noAim ≡ told
@@ -148,9 +148,9 @@ module _ (done coming : List ℕ) (p : Place) (f : Fits done coming p) (q : Ques
 
 -- the chain of an entry: an equal id is asked by the test of that name, whatever words are lent beside it
 pub aim-chain : (given : Given) (sets ws : List ℕ) (t : Text) (props : ℕ) (c : ChainParts) (q : Question) → q ≡ asks given props
-    → aimAt (c .records) (chainAt q sets t (handedChain byId ws (c .first) (partOf ws (c .backtrack)) (partOf ws (c .input)) (partOf ws (c .lookahead)) (c .records)))
+    → aimAt (c .records) (chainMatch q sets t (handedChain byId ws (c .first) (partOf ws (c .backtrack)) (partOf ws (c .input)) (partOf ws (c .lookahead)) (c .records)))
     ≡ aimedAt given sets ws (Entry.Chain props c) t
-unfolding chainAt valueBy
+unfolding chainMatch valueBy
 aim-chain given sets ws t props c q e =
     let k = handedChain byId ws (c .first) (partOf ws (c .backtrack)) (partOf ws (c .input)) (partOf ws (c .lookahead)) (c .records) in
-    ap (λ (x : Question). aimAt (c .records) (chainAt x sets t k)) e
+    ap (λ (x : Question). aimAt (c .records) (chainMatch x sets t k)) e

@@ -22,7 +22,7 @@ ghost use Rattle.verdict.specs.Verdict.{valueBy};
 ghost use Rattle.matching.specs.Matchers.{inputOn, aheadOn, backOn};
 ghost use Rattle.matching.specs.Answers.{inputTold, isMatched, endOf, isFound};
 ghost use Rattle.book.specs.Inside.{Good};
-ghost use Rattle.runs.specs.Chain.{asks, isTaken, itself, chainAt};
+ghost use Rattle.runs.specs.Chain.{asks, isTaken, itself, chainMatch};
 ghost use Rattle.aims.specs.Aim.{noAim, aimAt, byId, handedChain, aimedAt};
 
 // A chain that matched, where it did: its level and its records.
@@ -186,7 +186,7 @@ fn match_chain(
     records: Part,
 ) -> Aim
     requires { ⌜ Fits (now done) (now coming) p × (p .idx < limit) × (length (now back) ≤ 64) × (length (now input) ≤ 63) × (length (now onward) ≤ 64) ⌝ }
-    ensures { λ r. ⌜ r ≡ aimAt records (chainAt q (now (sets .entry)) (textOf (now (done .entry)) (now (coming .entry)) p)
+    ensures { λ r. ⌜ r ≡ aimAt records (chainMatch q (now (sets .entry)) (textOf (now (done .entry)) (now (coming .entry)) p)
         (handedChain tests (now (lists .entry)) first (now (back .entry)) (now (input .entry)) (now (onward .entry)) records)) ⌝ }
 {
     let d = p.d;

@@ -18,7 +18,7 @@ use Rattle.runs.specs.Repair.{Level, Sound}
 use Rattle.runs.specs.Run.{Run, Stage, Match, Matched, Unmatched, opened, chainedBy, doneBy, chainRun, lookupRun}
 use Rattle.runs.specs.Rises.{rises-wider}
 use Rattle.runs.specs.Kept.{Fitting, Fair}
-use Rattle.runs.specs.Chain.{asks, chainMatch}
+use Rattle.runs.specs.Chain.{asks, chainBy}
 use Rattle.runs.specs.ChainLaws.{chain-fitting}
 use Rattle.runs.specs.Deeds.{idsOf, deedBy, ruled}
 use Rattle.runs.specs.DeedLaws.{few-ids, ruled-fair}
@@ -103,7 +103,7 @@ module _ (given : Given) (sets ws : List ℕ) (depth : ℕ) (done coming : List 
   aimed b = aimedAt given sets ws b (textOf done coming (s .place))
 
   abbrev matched : ℕ → ChainParts → Match
-  matched props c = chainMatch given sets props (idsOf (chainOf ws c)) (textOf done coming (s .place))
+  matched props c = chainBy given sets props (idsOf (chainOf ws c)) (textOf done coming (s .place))
 
   hit-by : (b : Entry) → aimed b .hit ≡ true
       → levelRun (recordsOf (partOf ws (aimed b .records))) (stageOf done coming s (aimed b .level)) .run ≡ doneBy levelRun (ruled given sets .deed (meant ws b)) run

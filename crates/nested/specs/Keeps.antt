@@ -22,7 +22,7 @@ use Rattle.runs.specs.Repair.{Level, repaired, Rises, Sound}
 use Rattle.runs.specs.Run.{begun, fromDone, movedLevel}
 use Rattle.runs.specs.Rises.{rises-wider}
 use Rattle.runs.specs.Kept.{Fair, Good}
-use Rattle.runs.specs.Chain.{chainMatch}
+use Rattle.runs.specs.Chain.{chainBy}
 use Rattle.runs.specs.Deeds.{ruled}
 use Rattle.runs.specs.Drawn.{Drawn, Copied, Has, Steady, mask, mask-copied, run-drawn, drawn-has, drawn-steady}
 use Rattle.runs.specs.Promises.{run-good}
@@ -101,7 +101,7 @@ module _ (h : Handed) where
     -- a field that is copied into what is written: its values after are those before, in their order
     fields-drawn : {X : Type 0} (f : Glyph → X) → Copied f written → Drawn f (t .glyphs) (textAfter l .glyphs)
     fields-drawn f k = subst (λ (u : Text). Drawn f (t .glyphs) (u .glyphs)) (sym (whole .holds .text))
-        (run-drawn (chainMatch (h .given) (h .sets)) written (λ found. repaired) (lookupsOf (h .book)) d (recordsOf (h .records)) (first .positions) (first .end) a t f k)
+        (run-drawn (chainBy (h .given) (h .sets)) written (λ found. repaired) (lookupsOf (h .book)) d (recordsOf (h .records)) (first .positions) (first .end) a t f k)
 
     -- every glyph after the call has the mask of some glyph before it
     pub masks-were-there : (i : ℕ) → i < length (textAfter l .glyphs) → Has mask (t .glyphs) (mask (getD (textAfter l .glyphs) i blank))

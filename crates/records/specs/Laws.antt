@@ -114,12 +114,12 @@ filled-fits rs p f = let k = kept-few (length rs) in (omega (arith, f .number, l
 
 module _ (done coming : List ℕ) (place : Place) (sets book : List ℕ) (m : InputMatch) (given : Given) (allowance depth : ℕ) (done′ coming′ : List ℕ) (r : RunAnswer) where
   -- what the run on these words says
-  abbrev with : List ℕ → Handed
-  with words =
+  abbrev handed : List ℕ → Handed
+  handed words =
       record { done = done; coming = coming; place = place; sets = sets; book = book; records = words; match = m; given = given }
 
   abbrev pub SaidOf : List ℕ → Type 0
-  SaidOf words = Said (with words) allowance depth done′ coming′ r
+  SaidOf words = Said (handed words) allowance depth done′ coming′ r
 
   -- two refusals by 1 say the same, whatever the runs would be
   refused-same : (v v′ : Stage) (c c′ : Checked) → c ≡ Checked.Refused Shape → c′ ≡ Checked.Refused Shape → SaidBy c v done coming done′ coming′ r → SaidBy c′ v′ done coming done′ coming′ r
@@ -135,8 +135,8 @@ module _ (done coming : List ℕ) (place : Place) (sets book : List ℕ) (m : In
       by-test true e said =
           let h : mostKept ≤ length rs = leb-true mostKept (length rs) e in
           refused-same _ _ _ _
-          (many-refused (with (wordsOf (take mostKept rs))) allowance depth (omega (arith, words-length (take mostKept rs), length-take-le mostKept rs h)))
-          (many-refused (with (wordsOf rs)) allowance depth (omega (arith, words-length rs)))
+          (many-refused (handed (wordsOf (take mostKept rs))) allowance depth (omega (arith, words-length (take mostKept rs), length-take-le mostKept rs h)))
+          (many-refused (handed (wordsOf rs)) allowance depth (omega (arith, words-length rs)))
           said
       by-test false e said = subst (λ (l : List Record). SaidOf (wordsOf l)) (take-length rs) said
 

@@ -63,8 +63,8 @@ module _ (q : Question) (sets : List ℕ) (t : Text) where
   afterInput c unlike = Unmatched
 
   -- the cursor glyph, then input, lookahead and backtrack
-  unfoldable pub chainAt : Chain Asked → Match
-  chainAt c = cond (isYes (c .first (getD (t .glyphs) (t .cursor) blank))) (afterInput c (inputAt (c .input))) Unmatched
+  unfoldable pub chainMatch : Chain Asked → Match
+  chainMatch c = cond (isYes (c .first (getD (t .glyphs) (t .cursor) blank))) (afterInput c (inputAt (c .input))) Unmatched
 
-abbrev pub chainMatch : Given → List ℕ → ℕ → Chain Asked → Text → Match
-chainMatch given sets props c t = chainAt (asks given props) sets t c
+abbrev pub chainBy : Given → List ℕ → ℕ → Chain Asked → Text → Match
+chainBy given sets props c t = chainMatch (asks given props) sets t c

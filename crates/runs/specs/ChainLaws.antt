@@ -21,7 +21,7 @@ use Rattle.runs.specs.Run.{Match, Matched, Unmatched}
 use Rattle.runs.specs.Repair as rises
 use Rattle.runs.specs.Repair.{Rises, Sound}
 use Rattle.runs.specs.Kept.{Fitting}
-use Rattle.runs.specs.Chain.{inputAt, aheadAt, backAt, endAfter, isTaken, contextMatched, afterInput, chainAt}
+use Rattle.runs.specs.Chain.{inputAt, aheadAt, backAt, endAfter, isTaken, contextMatched, afterInput, chainMatch}
 
 -- accepted places rise to the end
 module _ {X : Type 0} {v : X → ℕ → Verdict} {ok : ℕ → Bool} where
@@ -63,8 +63,8 @@ module _ (q : Question) (sets : List ℕ) (t : Text) (h : t .cursor < length (t 
   after-fitting c few unlike e = tt
 
   -- whatever its values ask
-  pub chain-fitting : (c : Chain Asked) → length (c .input) ≤ mostInput → Fitting t (chainAt q sets t c)
-  unfolding chainAt
+  pub chain-fitting : (c : Chain Asked) → length (c .input) ≤ mostInput → Fitting t (chainMatch q sets t c)
+  unfolding chainMatch
   chain-fitting c few = by (isYes (c .first (getD (t .glyphs) (t .cursor) blank)))
     where
       by : (b : Bool) → Fitting t (cond b (afterInput q sets t c (inputAt q sets t (c .input))) Unmatched)

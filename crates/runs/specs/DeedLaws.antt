@@ -13,19 +13,19 @@ use Rattle.text.specs.Changes.{replaced-length, replaced-before}
 use Rattle.verdict.specs.Verdict.{Asked, equalTo}
 use Rattle.book.specs.Book.{Chain, Lookup, Kind1, Kind2, Kind3, Found, Is, None, lookupAt, mostInput}
 use Rattle.runs.specs.declared.Given.{Given}
-use Rattle.runs.specs.Run.{PastLimit, Made, Into, Stops, Match, Deed, Acts, Chains}
+use Rattle.runs.specs.Run.{PastLimit, Made, Into, Halts, Match, Deed, Acts, Chains}
 use Rattle.runs.specs.Repair.{Repairing, Mends, repaired}
 use Rattle.runs.specs.Rises.{repaired-mends}
 use Rattle.runs.specs.Kept.{Sparing, FairDeed, Fitting, Fair}
 use Rattle.runs.specs.Related.{RelatedMade, LastingDeed, Lasting}
-use Rattle.runs.specs.Chain.{asks, chainMatch}
+use Rattle.runs.specs.Chain.{asks, chainBy}
 use Rattle.runs.specs.ChainLaws.{chain-fitting}
 use Rattle.runs.specs.Deeds.{isAt, onId, renamedBy, multipliedBy, idsOf, deedBy, rulesBy, ruled}
 
 -- ---- what holds of writing holds of kinds 1 and 2: of a text that is left, and of one replaced
 
 module _ (P : Text → Made → Type 0) (left : (t : Text) → t .cursor < length (t .glyphs) → P t (Into t))
-    (full : (t : Text) → P t (Stops PastLimit)) (write : ℕ → Glyph → Glyph)
+    (full : (t : Text) → P t (Halts PastLimit)) (write : ℕ → Glyph → Glyph)
     (one : (ids : List ℕ) (t : Text) → t .cursor < length (t .glyphs) → P t (Into (replacedBy write ids t))) where
   on-id : (from : ℕ) (act : Text → Made) → ((t : Text) → t .cursor < length (t .glyphs) → P t (act t))
       → (t : Text) → t .cursor < length (t .glyphs) → P t (onId from act t)
@@ -41,7 +41,7 @@ module _ (P : Text → Made → Type 0) (left : (t : Text) → t .cursor < lengt
   pub multiplies : (from : ℕ) (ids : List ℕ) (t : Text) → t .cursor < length (t .glyphs) → P t (onId from (multipliedBy write ids) t)
   multiplies from ids = on-id from (multipliedBy write ids) (λ t h. by t h (isFull (length (t .glyphs)) (length ids)))
     where
-      by : (t : Text) → t .cursor < length (t .glyphs) → (b : Bool) → P t (cond b (Stops PastLimit) (Into (replacedBy write ids t)))
+      by : (t : Text) → t .cursor < length (t .glyphs) → (b : Bool) → P t (cond b (Halts PastLimit) (Into (replacedBy write ids t)))
       by t h true = full t
       by t h false = one ids t h
 
@@ -72,9 +72,9 @@ few-ids c few = omega (arith, few, length-map (c .input) equalTo)
 
 -- 01's chains, whatever is written and however levels are repaired, as long as repairs keep them sound
 pub rules-fair : (given : Given) (sets : List ℕ) (write : ℕ → Glyph → Glyph) (repair : Found → Repairing) → ((found : Found) → Mends (repair found))
-    → (book : List Lookup) → FewValues book → Fair (rulesBy (chainMatch given sets) write repair) book
+    → (book : List Lookup) → FewValues book → Fair (rulesBy (chainBy given sets) write repair) book
 rules-fair given sets write repair mends book few = record {
-  deeds = λ k. deed-fair (chainMatch given sets) write (lookupAt k book)
+  deeds = λ k. deed-fair (chainBy given sets) write (lookupAt k book)
       (λ props c e t h. chain-fitting (asks given props) sets t h (idsOf c) (few-ids c (few k props c e)));
   mends = mends;
 }
@@ -84,9 +84,9 @@ ruled-fair given sets = rules-fair given sets written (λ found. repaired) (λ f
 
 -- ---- what stops a run: kind 2 at its id, where the text would pass the limit; and no other lookup (01, "Records over a text": Full)
 
-abbrev pub StopsAt : Deed → Text → Type 0
-StopsAt (Acts act) t = act t ≡ Stops PastLimit
-StopsAt (Chains match records) t = ⊥
+abbrev pub HaltsAt : Deed → Text → Type 0
+HaltsAt (Acts act) t = act t ≡ Halts PastLimit
+HaltsAt (Chains match records) t = ⊥
 
 abbrev pub Overfills : Found → Text → Type 0
 Overfills (Is (Kind1 props from to)) t = ⊥
@@ -94,15 +94,15 @@ Overfills (Is (Kind2 props from ids)) t = (isAt from t ≡ true) × (isFull (len
 Overfills (Is (Kind3 props chain)) t = ⊥
 Overfills None t = ⊥
 
-goes-on : {t : Text} → Into t ≡ Stops PastLimit → ⊥
+goes-on : {t : Text} → Into t ≡ Halts PastLimit → ⊥
 goes-on e = let z : _≡_ {A = ℕ} 0 1 = cc in omega arith
 
 pub limit-exactly : (match : ℕ → Chain Asked → Text → Match) (write : ℕ → Glyph → Glyph) (found : Found) (t : Text)
-    → StopsAt (deedBy match write found) t ↔ Overfills found t
+    → HaltsAt (deedBy match write found) t ↔ Overfills found t
 unfolding deedBy
 limit-exactly match write (Is (Kind1 props from to)) t = (by (isAt from t), λ z. absurd z)
   where
-    by : (b : Bool) → cond b (renamedBy write to t) (Into t) ≡ Stops PastLimit → ⊥
+    by : (b : Bool) → cond b (renamedBy write to t) (Into t) ≡ Halts PastLimit → ⊥
     by true e = goes-on e
     by false e = goes-on e
 limit-exactly match write (Is (Kind2 props from ids)) t = (
@@ -110,7 +110,7 @@ limit-exactly match write (Is (Kind2 props from ids)) t = (
   λ h. rw (h .0, h .1),
 )
   where
-    by : (b c : Bool) → cond b (cond c (Stops PastLimit) (Into (replacedBy write ids t))) (Into t) ≡ Stops PastLimit → (b ≡ true) × (c ≡ true)
+    by : (b c : Bool) → cond b (cond c (Halts PastLimit) (Into (replacedBy write ids t))) (Into t) ≡ Halts PastLimit → (b ≡ true) × (c ≡ true)
     by true true e = (refl, refl)
     by true false e = absurd (goes-on e)
     by false c e = absurd (goes-on e)
@@ -119,12 +119,12 @@ limit-exactly match write None t = (λ e. goes-on e, λ z. absurd z)
 
 -- ---- a relation that one replacement keeps
 
-pub record Written (write : ℕ → Glyph → Glyph) (R : List Glyph → List Glyph → Type 0) : Type 0 where
+pub record KeptByWriting (write : ℕ → Glyph → Glyph) (R : List Glyph → List Glyph → Type 0) : Type 0 where
   pub same : (a : List Glyph) → R a a
   pub on : (a b c : List Glyph) → R a b → R b c → R a c
   pub one : (ids : List ℕ) (t : Text) → t .cursor < length (t .glyphs) → R (t .glyphs) (replacedBy write ids t .glyphs)
 
-module _ (match : ℕ → Chain Asked → Text → Match) (write : ℕ → Glyph → Glyph) (R : List Glyph → List Glyph → Type 0) (kept : Written write R) where
+module _ (match : ℕ → Chain Asked → Text → Match) (write : ℕ → Glyph → Glyph) (R : List Glyph → List Glyph → Type 0) (kept : KeptByWriting write R) where
   deed-lasts : (found : Found) → LastingDeed R (deedBy match write found)
   unfolding deedBy
   deed-lasts (Is (Kind1 props from to)) = renames (RelatedMade R) (λ t h. kept .same (t .glyphs)) (λ t. tt) write (kept .one) from to

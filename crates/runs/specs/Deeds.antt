@@ -12,8 +12,8 @@ use Rattle.verdict.specs.Verdict.{Asked, equalTo}
 use Rattle.book.specs.Book.{Chain, Kind1, Kind2, Kind3, Found, Is, None}
 use Rattle.runs.specs.declared.Given.{Given}
 use Rattle.runs.specs.Repair.{Repairing, repaired}
-use Rattle.runs.specs.Run.{PastLimit, Made, Into, Stops, Match, Deed, Acts, Chains, Rules}
-use Rattle.runs.specs.Chain.{chainMatch}
+use Rattle.runs.specs.Run.{PastLimit, Made, Into, Halts, Match, Deed, Acts, Chains, Rules}
+use Rattle.runs.specs.Chain.{chainBy}
 
 -- ---- kinds 1 and 2, which test only the cursor glyph's id
 
@@ -30,7 +30,7 @@ module _ (write : ℕ → Glyph → Glyph) where
 
   -- kind 2: the glyph becomes one for each id; where the text would pass its limit nothing is written, and the run stops
   abbrev pub multipliedBy : List ℕ → Text → Made
-  multipliedBy ids t = cond (isFull (length (t .glyphs)) (length ids)) (Stops PastLimit) (Into (replacedBy write ids t))
+  multipliedBy ids t = cond (isFull (length (t .glyphs)) (length ids)) (Halts PastLimit) (Into (replacedBy write ids t))
 
 -- ---- chains
 
@@ -62,4 +62,4 @@ rulesBy match write repair = record { deed = deedBy match write; repair = repair
 
 -- those of 01: a written glyph keeps all but its id, and a level is repaired alike after every lookup
 abbrev pub ruled : Given → List ℕ → Rules
-ruled given sets = rulesBy (chainMatch given sets) written (λ found. repaired)
+ruled given sets = rulesBy (chainBy given sets) written (λ found. repaired)

@@ -17,9 +17,9 @@ use Rattle.runs.specs.declared.Given.{Given}
 use Rattle.runs.specs.Run.{Match, runOn}
 use Rattle.runs.specs.Repair.{Repairing}
 use Rattle.runs.specs.Related.{run-relates}
-use Rattle.runs.specs.Chain.{chainMatch}
+use Rattle.runs.specs.Chain.{chainBy}
 use Rattle.runs.specs.Deeds.{rulesBy, ruled}
-use Rattle.runs.specs.DeedLaws.{Written, writing-lasts}
+use Rattle.runs.specs.DeedLaws.{KeptByWriting, writing-lasts}
 
 -- what is written for an id has the value of the glyph that it replaces
 abbrev pub Copied : {X : Type 0} → (Glyph → X) → (ℕ → Glyph → Glyph) → Type 0
@@ -56,7 +56,7 @@ module _ {X : Type 0} (f : Glyph → X) where
     at-drawn ids (g ∷ gs) zero h = copies-drawn ids g gs
     at-drawn ids (g ∷ gs) (suc i) h = again refl (past (at-drawn ids gs i (omega arith)))
 
-    pub drawn-written : Written write (Drawn f)
+    pub drawn-written : KeptByWriting write (Drawn f)
     drawn-written = record {
       same = drawn-same;
       on = λ a b c p q. drawn-on p q;

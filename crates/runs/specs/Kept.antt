@@ -14,7 +14,7 @@ use Rattle.glyph.specs.declared.Glyph.{Glyph}
 use Rattle.text.specs.Text.{Text, movedTo}
 use Rattle.book.specs.Book.{Record, Lookup, Found, lookupAt}
 use Rattle.runs.specs.Repair.{Level, Mends, Sound}
-use Rattle.runs.specs.Run.{Run, Stage, Act, Made, Into, Stops, madeIn, Match, Matched, Unmatched, Deed, Acts, Chains, Rules, isOver, size, changed, when}
+use Rattle.runs.specs.Run.{Run, Stage, Act, Made, Into, Halts, madeIn, Match, Matched, Unmatched, Deed, Acts, Chains, Rules, isOver, size, changed, when}
 use Rattle.runs.specs.Run.{inRun, opened, chainedBy, doneBy, placeOf, isDue, arrived, spending, followedBy, triedBy, dueBy, stepBy, recordsBy, closed}
 use Rattle.runs.specs.Run.{acting, mending, deedAt, chainRun, lookupRun}
 use Rattle.runs.specs.Rises.{rises-at}
@@ -32,7 +32,7 @@ Fitting t Unmatched = Unit {0}
 -- what a lookup makes of a text by itself leaves the glyphs before the cursor
 abbrev pub Sparing : Text → Made → Type 0
 Sparing t (Into u) = (take (t .cursor) (u .glyphs) ≡ take (t .cursor) (t .glyphs)) × (t .cursor ≤ length (u .glyphs))
-Sparing t (Stops why) = Unit {0}
+Sparing t (Halts why) = Unit {0}
 
 -- at a cursor in the text
 abbrev pub FairDeed : Deed → Type 0
@@ -68,7 +68,7 @@ same-kept p x y e h = record { before = ap (λ (g : List Glyph). take p g) e; lo
 
 made-keeps : (m : Made) (x : Run) → x .text .cursor < size x → Sparing (x .text) m → Kept (x .text .cursor) x (madeIn m x)
 made-keeps (Into u) x h s = record { before = s .0; long = s .1 }
-made-keeps (Stops why) x h s = same-kept (x .text .cursor) x (madeIn (Stops why) x) refl (omega arith)
+made-keeps (Halts why) x h s = same-kept (x .text .cursor) x (madeIn (Halts why) x) refl (omega arith)
 
 -- the records of a level keep it good
 abbrev pub KeepsLevel : (Stage → Stage) → Type 0

@@ -9,7 +9,7 @@ use lib.ListN.{length}
 use Rattle.glyph.specs.declared.Glyph.{Glyph}
 use Rattle.text.specs.Text.{Text, movedTo}
 use Rattle.book.specs.Book.{Record, Lookup, Found, lookupAt}
-use Rattle.runs.specs.Run.{Run, Stage, Act, Made, Into, Stops, madeIn, Match, Matched, Unmatched, Deed, Acts, Chains, Rules, isOver, size, changed}
+use Rattle.runs.specs.Run.{Run, Stage, Act, Made, Into, Halts, madeIn, Match, Matched, Unmatched, Deed, Acts, Chains, Rules, isOver, size, changed}
 use Rattle.runs.specs.Run.{when, opened, begun, chainedBy, doneBy, isDue, arrived, spending, triedBy, dueBy, stepBy, recordsBy, closed}
 use Rattle.runs.specs.Run.{acting, mending, deedAt, chainRun, lookupRun, runOn}
 use Rattle.runs.specs.Kept.{Due, due-shows}
@@ -17,7 +17,7 @@ use Rattle.runs.specs.Kept.{Due, due-shows}
 -- a text and what was made of it are related, or nothing was made of it
 abbrev pub RelatedMade : (List Glyph → List Glyph → Type 0) → Text → Made → Type 0
 RelatedMade R t (Into u) = R (t .glyphs) (u .glyphs)
-RelatedMade R t (Stops why) = Unit {0}
+RelatedMade R t (Halts why) = Unit {0}
 
 -- a chain's own records do the rest
 abbrev pub LastingDeed : (List Glyph → List Glyph → Type 0) → Deed → Type 0
@@ -43,7 +43,7 @@ module _ (rules : Rules) (book : List Lookup) (R : List Glyph → List Glyph →
 
   made-relates : (m : Made) (x : Run) → RelatedMade R (x .text) m → R (x .text .glyphs) (madeIn m x .text .glyphs)
   made-relates (Into t) x r = r
-  made-relates (Stops why) x r = unchanged x
+  made-relates (Halts why) x r = unchanged x
 
   chained-relates : (f : Stage → Stage) → RelatesLevel f → (x : Run) (m : Match) → R (x .text .glyphs) (chainedBy f m x .text .glyphs)
   chained-relates f F x (Matched positions end) = F (opened positions end x)

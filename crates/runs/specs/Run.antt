@@ -86,11 +86,11 @@ when false f x = x
 -- what it makes of a text by itself: another text, which may be the same, or none, and the run stops
 pub data Made : Type 0 where
   Into : Text → Made
-  Stops : Reason → Made
+  Halts : Reason → Made
 
 abbrev pub madeIn : Made → Run → Run
 madeIn (Into t) x = changed (λ u. t) x
-madeIn (Stops why) x = endingAs (endingFor why) x
+madeIn (Halts why) x = endingAs (endingFor why) x
 
 -- a chain's match: its positions and its end, from the text's first glyph on
 pub data Match : Type 0 where

@@ -16,7 +16,7 @@ use Rattle.book.specs.Book.{Record, Lookup}
 use Rattle.runs.specs.declared.Ending.{Ending}
 use Rattle.runs.specs.declared.Ending.the-variants.{Finished, Short, Deep}
 use Rattle.runs.specs.Repair.{Level, Repairing}
-use Rattle.runs.specs.Run.{Run, Stage, Act, Reason, endingFor, Made, Into, Stops, madeIn, Match, Matched, Unmatched, Deed, Acts, Chains, Rules, isOver, changed}
+use Rattle.runs.specs.Run.{Run, Stage, Act, Reason, endingFor, Made, Into, Halts, madeIn, Match, Matched, Unmatched, Deed, Acts, Chains, Rules, isOver, changed}
 use Rattle.runs.specs.Run.{tallied, endingAs, inRun, when, opened, chainedBy, doneBy, isDue, arrived, spending, followedBy, triedBy, dueBy, stepBy}
 use Rattle.runs.specs.Run.{recordsBy, closed, acting, mending, deedAt, chainRun}
 use Rattle.runs.specs.Over.{reason-over, finished-not-over}
@@ -144,7 +144,7 @@ stops-core why = record {
 
 made-core : (m : Made) → RunCore (madeIn m) (madeIn m)
 made-core (Into t) = changed-core (λ u. t)
-made-core (Stops why) = stops-core why
+made-core (Halts why) = stops-core why
 
 -- the records of a level, at one depth and at another
 abbrev LevelCore : (Stage → Stage) → (Stage → Stage) → Type 0

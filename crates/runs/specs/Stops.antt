@@ -11,7 +11,7 @@ use Rattle.text.specs.Text.{Text, movedTo}
 use Rattle.book.specs.Book.{Record, Lookup}
 use Rattle.runs.specs.declared.Ending.{Ending}
 use Rattle.runs.specs.declared.Ending.the-variants.{Finished, Short, Deep, Full}
-use Rattle.runs.specs.Run.{Run, Stage, Act, Reason, PastLimit, endingFor, Made, Into, Stops, madeIn, Deed, Acts, Chains, Rules}
+use Rattle.runs.specs.Run.{Run, Stage, Act, Reason, PastLimit, endingFor, Made, Into, Halts, madeIn, Deed, Acts, Chains, Rules}
 use Rattle.runs.specs.Run.{Match, Matched, Unmatched, isOver, changed, when, opened, begun, chainedBy, doneBy, isDue, arrived, spending}
 use Rattle.runs.specs.Run.{triedBy, dueBy, stepBy, recordsBy, closed, acting, mending, deedAt, chainRun, lookupRun, runOn}
 use Rattle.runs.specs.Over.{reason-over, short-not-over, finished-not-over, over-stays}
@@ -48,7 +48,7 @@ MetDepth = Meets (Unit {0}) (λ made. ⊥)
 
 -- a lookup that was tried stops the run, for this reason
 abbrev pub MetReason : Reason → Rules → List Lookup → ℕ → List Record → Stage → Type 0
-MetReason why = Meets ⊥ (λ made. made ≡ Stops why)
+MetReason why = Meets ⊥ (λ made. made ≡ Halts why)
 
 -- a result would have passed the limit
 abbrev pub MetLimit : Rules → List Lookup → ℕ → List Record → Stage → Type 0
@@ -148,17 +148,17 @@ module _ (E : Ending) (over : isOver E ≡ true) (atNone : Type 0) (halts : Made
 
 deep-made : (m : Made) → Tells Deep ends (madeIn m) (λ x. ⊥)
 deep-made (Into t) = record { only = λ x h. inl h; so = λ x z. absurd z }
-deep-made (Stops why) = record { only = λ x h. absurd (reason-deep why h); so = λ x z. absurd z }
+deep-made (Halts why) = record { only = λ x h. absurd (reason-deep why h); so = λ x z. absurd z }
 
-stops-not : (t : Text) (why : Reason) → Into t ≡ Stops why → ⊥
+stops-not : (t : Text) (why : Reason) → Into t ≡ Halts why → ⊥
 stops-not t why e = let z : _≡_ {A = ℕ} 0 1 = cc in omega arith
 
-stops-same : (w why : Reason) → Stops w ≡ Stops why → w ≡ why
+stops-same : (w why : Reason) → Halts w ≡ Halts why → w ≡ why
 stops-same w why e = cc
 
-reason-made : (why : Reason) (m : Made) → Tells (endingFor why) ends (madeIn m) (λ x. m ≡ Stops why)
+reason-made : (why : Reason) (m : Made) → Tells (endingFor why) ends (madeIn m) (λ x. m ≡ Halts why)
 reason-made why (Into t) = record { only = λ x h. inl h; so = λ x e. absurd (stops-not t why e) }
-reason-made why (Stops w) = record { only = λ x h. inr (ap Stops (reason-same w why h)); so = λ x e. ap endingFor (stops-same w why e) }
+reason-made why (Halts w) = record { only = λ x h. inr (ap Halts (reason-same w why h)); so = λ x e. ap endingFor (stops-same w why e) }
 
 module _ (rules : Rules) (book : List Lookup) (records : List Record) (positions : List ℕ) (end : ℕ) (t : Text) where
   abbrev first : ℕ → Stage
@@ -173,7 +173,7 @@ module _ (rules : Rules) (book : List Lookup) (records : List Record) (positions
   pub stopped-exactly : (why : Reason) (d a : ℕ)
       → (runOn rules book d records positions end a t .run .tally .ending ≡ endingFor why) ↔ MetReason why rules book d records (opened positions end (begun a t))
   stopped-exactly why d a =
-      let c = chain-tells (endingFor why) (reason-over why) ⊥ (λ made. made ≡ Stops why) (λ e. reason-deep why (sym e), λ z. absurd z) (reason-made why) rules book d records in
+      let c = chain-tells (endingFor why) (reason-over why) ⊥ (λ made. made ≡ Halts why) (λ e. reason-deep why (sym e), λ z. absurd z) (reason-made why) rules book d records in
       (λ e. ⊎-elim (λ h. absurd (finished-not-over (reason-over why) h)) (λ m. m) (c .only (first a) e), c .so (first a))
 
   pub full-exactly : (d a : ℕ) → (runOn rules book d records positions end a t .run .tally .ending ≡ Full) ↔ MetLimit rules book d records (opened positions end (begun a t))

@@ -10,7 +10,7 @@ use Rattle.text.specs.Text.{movedTo}
 use Rattle.book.specs.Book.{Record, Lookup}
 use Rattle.runs.specs.declared.Ending.{Ending}
 use Rattle.runs.specs.declared.Ending.the-variants.{Finished, Short, Deep}
-use Rattle.runs.specs.Run.{Run, Stage, Act, Reason, endingFor, Made, Into, Stops, madeIn, Match, Matched, Unmatched, Deed, Acts, Chains, Rules, isOver, changed}
+use Rattle.runs.specs.Run.{Run, Stage, Act, Reason, endingFor, Made, Into, Halts, madeIn, Match, Matched, Unmatched, Deed, Acts, Chains, Rules, isOver, changed}
 use Rattle.runs.specs.Run.{when, opened, chainedBy, doneBy, isDue, arrived, spending, triedBy, dueBy, stepBy, recordsBy, closed}
 use Rattle.runs.specs.Run.{acting, mending, deedAt, chainRun, lookupRun}
 use Rattle.runs.specs.Spending.{Out, Stays, left, ends, leftOf, endOf, due-out, records-stays, closed-stays, chain-core}
@@ -30,7 +30,7 @@ AddsUp f = (v : Stage) → sumOf (f v .run) ≡ sumOf (v .run)
 
 made-adds : (m : Made) → Adds (madeIn m)
 made-adds (Into t) x = refl
-made-adds (Stops why) x = refl
+made-adds (Halts why) x = refl
 
 chained-adds : (g : Stage → Stage) → AddsUp g → (m : Match) → Adds (chainedBy g m)
 chained-adds g G (Matched ps e) x = G (opened ps e x)
@@ -92,7 +92,7 @@ reason-short why e = short-not-over (reason-over why) (sym e)
 
 made-told : (m : Made) (x : Run) → ends (madeIn m x) ≡ Short → ends x ≡ Short
 made-told (Into t) x h = h
-made-told (Stops why) x h = absurd (reason-short why h)
+made-told (Halts why) x h = absurd (reason-short why h)
 
 chained-told : (g : Stage → Stage) (met : Stage → Type 0) → Told leftOf endOf g met → (m : Match) → Told left ends (chainedBy g m) (MetMatch met m)
 chained-told g met G (Matched ps e) = record { only = λ x. G .only (opened ps e x); so = λ x. G .so (opened ps e x) }

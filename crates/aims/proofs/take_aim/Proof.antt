@@ -6,7 +6,7 @@ use lib.ListN.{length, length-take, length-drop}
 use Rattle.text.specs.Text.{textOf}
 use Rattle.book.specs.Inside.{GoodChain}
 use Rattle.book.specs.Places.{partOf}
-use Rattle.runs.specs.Chain.{chainAt}
+use Rattle.runs.specs.Chain.{chainMatch}
 use Rattle.aims.specs.declared.Tests.{Tests}
 use Rattle.aims.specs.Aim.{aimAt, handedChain}
 use Rattle.aims.specs.Laws.{aim-chain}
@@ -107,7 +107,7 @@ returns c =
     let t = textOf (a .done .now) (a .coming .now) (a .p) in
     rw (e .1)
     (c .match-chain .ensures
-    ∙ ap (λ (x : Tests). aimAt (k .records) (chainAt (q .result) (a .sets .now) t
+    ∙ ap (λ (x : Tests). aimAt (k .records) (chainMatch (q .result) (a .sets .now) t
     (handedChain x ws (k .first) (partOf ws (k .backtrack)) (partOf ws (k .input)) (partOf ws (k .lookahead)) (k .records)))) (c .before .before .before .before .by-id .ensures)
     ∙ aim-chain (a .given) (a .sets .now) ws t (e .0 .0) k (q .result) (q .ensures))
 
