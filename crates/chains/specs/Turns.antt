@@ -111,10 +111,10 @@ module _ (depth : ℕ) (r : Record) (done coming : List ℕ) (s : State) (lv : S
         let c : y .state .place .d ≡ placeOf r v = ap (λ (t : Text). t .cursor) text-same in
         omega (arith, g .due .inside, glyphs-same)
 
-    pub tried-few : y .state .tally .left + y .state .tally .spent ≤ mostAllowance
+    pub tried-few : y .state .left + y .state .spent ≤ mostAllowance
     tried-few =
-        let a : y .state .tally .left ≡ readied depth r v .stage .run .tally .left = ap (λ (w : Stage). w .run .tally .left) ready-stage in
-        let b : y .state .tally .spent ≡ readied depth r v .stage .run .tally .spent = ap (λ (w : Stage). w .run .tally .spent) ready-stage in
+        let a : y .state .left ≡ readied depth r v .stage .run .tally .left = ap (λ (w : Stage). w .run .tally .left) ready-stage in
+        let b : y .state .spent ≡ readied depth r v .stage .run .tally .spent = ap (λ (w : Stage). w .run .tally .spent) ready-stage in
         omega (arith, g .sum, able .few)
 
     -- what the repair asks
@@ -161,7 +161,7 @@ module _ (given : Given) (sets ws : List ℕ) where
         → Able done coming s lv → stageOf done₂ coming₂ s₂ lv₂ ≡ stepBy (nestedAt d) d r (stageOf done coming s lv) → Neat lv₂ → Fits done₂ coming₂ (s₂ .place) → Able done₂ coming₂ s₂ lv₂
     still-able d r done coming s lv done₂ coming₂ s₂ lv₂ a e neat f =
         let v : Stage = stageOf done coming s lv in
-        let sum : s₂ .tally .left + s₂ .tally .spent ≡ s .tally .left + s .tally .spent =
+        let sum : s₂ .left + s₂ .spent ≡ s .left + s .spent =
         ap (λ (w : Stage). w .run .tally .left + w .run .tally .spent) e ∙ step-adds (nestedAt d) (nested-adds d) d r v in
         let g = step-good (nestedAt d) (nested-keeps d) (λ k. repaired-mends) d r 0 (runOf done coming s) v (record { level = a .sound; kept = record { before = refl; long = omega arith } }) in
         record {

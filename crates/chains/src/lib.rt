@@ -92,7 +92,7 @@ fn lookup(
     depth: usize,
 ) -> State
     requires { ⌜ Indexed (now book) (now starts) count × Good (length (now book)) e
-        × Fits (now done) (now coming) (s .place) × (s .place .idx < limit) × (s .tally .left + s .tally .spent ≤ mostAllowance) ⌝ }
+        × Fits (now done) (now coming) (s .place) × (s .place .idx < limit) × (s .left + s .spent ≤ mostAllowance) ⌝ }
     ensures { λ r. ⌜ Ran (now (done .exit)) (now (coming .exit)) r
         (doneBy (chainRun (ruled given (now (sets .entry))) (lookupsOf (now (book .entry))) depth) (ruled given (now (sets .entry)) .deed (meant (now (book .entry)) e))
         (runOf (now (done .entry)) (now (coming .entry)) s)) ⌝ }

@@ -173,7 +173,7 @@ module _ (done coming : List ℕ) (p : Place) (f : Fits done coming p) (end coun
 
 pub whole-is : (v : Stage) (done₁ coming₁ done₂ coming₂ : List ℕ) (r : Closed) → Chained done₁ coming₁ r v
     → Holds done₂ coming₂ (r .state .place) (textOf done₁ coming₁ (r .state .place)) → Clear done₂ coming₂ (r .state .place)
-    → Whole v done₂ coming₂ (record { ending = RunEnding.Ended (r .state .tally .ending); spent = r .state .tally .spent; d = r .state .place .d; idx = r .state .place .idx; count = r .level .count; positions = r .level .at })
+    → Whole v done₂ coming₂ (record { ending = RunEnding.Ended (r .state .ending); spent = r .state .spent; d = r .state .place .d; idx = r .state .place .idx; count = r .level .count; positions = r .level .at })
 whole-is v done₁ coming₁ done₂ coming₂ r c h k = record {
   ending = ap (λ (x : Run). RunEnding.Ended (x .tally .ending)) (c .ran .is);
   spent = ap (λ (x : Run). x .tally .spent) (c .ran .is);

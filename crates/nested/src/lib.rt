@@ -293,12 +293,11 @@ fn go(
     let level = r.level;
     let here = last.place;
     text::clear_outside(done, coming, here);
-    let tally = last.tally;
-    let ending = tally.ending;
+    let ending = last.ending;
     let positions = level.at;
     RunAnswer {
         ending: RunEnding::Ended(ending),
-        spent: tally.spent,
+        spent: last.spent,
         d: here.d,
         idx: here.idx,
         count: level.count,

@@ -10,11 +10,15 @@ use Rattle.text.specs.Text.{Text, movedTo}
 use Rattle.book.specs.Book.{Record, Lookup, Found, lookupAt}
 use Rattle.runs.specs.declared.Ending.{Ending}
 use Rattle.runs.specs.declared.Ending.the-variants.{Finished, Short, Deep, Full}
-use Rattle.runs.specs.declared.Tally.{Tally}
 use Rattle.runs.specs.Repair.{Level, Repairing}
 
--- ---- a run: the text, and the tally, which is the allowance left, the lookups tried so far, and how the run would end now.
--- Both are made by the helpers below and nowhere else.
+-- ---- a run: the text, and how the run stands. Both are made by the helpers below and nowhere else
+
+-- the allowance that is left, the lookups tried so far, and how the run would end now
+pub record Tally : Type 0 where
+  pub left : ℕ
+  pub spent : ℕ
+  pub ending : Ending
 
 pub record Run : Type 0 where
   pub text : Text

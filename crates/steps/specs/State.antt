@@ -11,19 +11,22 @@ use Rattle.book.specs.declared.Entry.{Entry}
 use Rattle.book.specs.Book.{Record}
 use Rattle.book.specs.Places.{partOf}
 use Rattle.runs.specs.declared.Ending.{Ending}
-use Rattle.runs.specs.declared.Ending.the-variants.{Short, Deep}
+use Rattle.runs.specs.declared.Ending.the-variants.{Finished, Short, Deep}
 use Rattle.runs.specs.Repair.{Level, Sound}
-use Rattle.runs.specs.declared.Tally.{Tally}
-use Rattle.runs.specs.Run.{Run, Stage, madeIn, isOver, fresh, changed, ended, spentOne, inRun, when, isDue, arrived, stopped, spending, mostAllowance}
+use Rattle.runs.specs.Run.{Tally, Run, Stage, madeIn, isOver, changed, inRun, when, isDue, arrived, stopped, spending, mostAllowance}
 use Rattle.runs.specs.Deeds.{onId, renamedBy, multipliedBy}
 use Rattle.levels.specs.declared.Slots.{Slots}
 use Rattle.levels.specs.Slots.{levelOf, shown, Neat}
 use Rattle.steps.specs.declared.State.{State}
 use Rattle.steps.specs.declared.Ready.{Ready}
 
+-- how the run stands
+abbrev pub tallyOf : State → Tally
+tallyOf s = record { left = s .left; spent = s .spent; ending = s .ending }
+
 -- the run that two rows and a state hold
 abbrev pub runOf : List ℕ → List ℕ → State → Run
-runOf done coming s = record { text = textOf done coming (s .place); tally = s .tally }
+runOf done coming s = record { text = textOf done coming (s .place); tally = tallyOf s }
 
 abbrev pub stageOf : List ℕ → List ℕ → State → Slots → Stage
 stageOf done coming s lv = record { level = levelOf lv; run = runOf done coming s }
@@ -42,16 +45,17 @@ isDueAt lv e size seq =
 
 -- states are made by these
 abbrev pub begunAt : Place → ℕ → State
-begunAt place allowance = record { place = place; tally = fresh allowance }
+begunAt place allowance = record { place = place; left = allowance; spent = 0; ending = Finished }
 
 abbrev pub partedAt : Place → State → State
-partedAt place s = record { place = place; tally = s .tally }
-
-abbrev pub talliedAs : Tally → State → State
-talliedAs y s = record { place = s .place; tally = y }
+partedAt place s = record { place = place; left = s .left; spent = s .spent; ending = s .ending }
 
 abbrev pub endedAs : Ending → State → State
-endedAs e s = talliedAs (ended e (s .tally)) s
+endedAs e s = record { place = s .place; left = s .left; spent = s .spent; ending = e }
+
+-- one try more, with so much left
+abbrev pub spentAs : ℕ → State → State
+spentAs left s = record { place = s .place; left = left; spent = s .spent + 1; ending = s .ending }
 
 abbrev pub stoppedSlots : Slots → Slots
 stoppedSlots lv = record { live = false; end = lv .end; count = lv .count; at = lv .at }
@@ -64,7 +68,7 @@ unfoldable pub judgedAt : ℕ → ℕ → State → Slots → Ready
 judgedAt depth zero s lv = stoppedAs Short s lv
 judgedAt zero (suc left) s lv = stoppedAs Deep s lv
 judgedAt (suc depth) (suc left) s lv =
-    record { go = true; state = talliedAs (spentOne left (s .tally)) s; level = lv }
+    record { go = true; state = spentAs left s; level = lv }
 
 -- the same on a stage: whether the record's lookup is tried, and on what
 pub record Judgement : Type 0 where
@@ -113,6 +117,6 @@ at seq = record { seq = seq; lookup = 0 }
 -- rows that hold a text, a level that is sound over it, and no more left and spent than an allowance
 pub record Able (done coming : List ℕ) (s : State) (lv : Slots) : Type 0 where
   pub fits : Fits done coming (s .place)
-  pub few : s .tally .left + s .tally .spent ≤ mostAllowance
+  pub few : s .left + s .spent ≤ mostAllowance
   pub neat : Neat lv
   pub sound : Sound 0 (length (textOf done coming (s .place) .glyphs)) (levelOf lv)

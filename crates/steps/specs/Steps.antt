@@ -18,14 +18,14 @@ use Rattle.runs.specs.declared.Ending.{Ending}
 use Rattle.runs.specs.declared.Ending.the-variants.{Short, Deep, Full}
 use Rattle.runs.specs.Repair.{Sound}
 use Rattle.runs.specs.Kept.{due-shows}
-use Rattle.runs.specs.Run.{Stage, spentOne, isOver, size, changed, endingAs, spending, isDue, arrived, placeOf}
+use Rattle.runs.specs.Run.{Stage, isOver, size, changed, endingAs, spending, isDue, arrived, placeOf}
 use Rattle.runs.specs.Deeds.{isAt}
 use Rattle.levels.specs.declared.Slots.{Slots}
 use Rattle.levels.specs.Slots.{levelOf, Neat}
 use Rattle.levels.specs.Laws.{count-is}
 use Rattle.steps.specs.declared.State.{State}
 use Rattle.steps.specs.declared.Ready.{Ready}
-use Rattle.steps.specs.State.{runOf, stageOf, Ran, Able, at, isDueAt, partedAt, talliedAs, endedAs, stoppedSlots, judgedAt, judged, readied, Prepared, closedAt, oneOn, manyOn}
+use Rattle.steps.specs.State.{runOf, stageOf, Ran, Able, at, isDueAt, partedAt, endedAs, spentAs, stoppedSlots, judgedAt, judged, readied, Prepared, closedAt, oneOn, manyOn}
 
 -- ids of a lookup, and slots, are fewer than a row's glyphs
 pub limit-most : 64 ≤ limit
@@ -61,27 +61,27 @@ module _ (depth : ℕ) (s : State) (lv : Slots) where
   unfolding judgedAt
   judge-zero l e = rw e
 
-  pub judge-short : s .tally .left ≡ 0 → _≡_ {A = Ready} (record { go = false; state = endedAs Short s; level = stoppedSlots lv }) (judgedAt depth (s .tally .left) s lv)
-  judge-short e = judge-zero (s .tally .left) e
+  pub judge-short : s .left ≡ 0 → _≡_ {A = Ready} (record { go = false; state = endedAs Short s; level = stoppedSlots lv }) (judgedAt depth (s .left) s lv)
+  judge-short e = judge-zero (s .left) e
 
   judge-none : (l d : ℕ) → (l ≡ 0 → ⊥) → d ≡ 0 → _≡_ {A = Ready} (record { go = false; state = endedAs Deep s; level = stoppedSlots lv }) (judgedAt d l s lv)
   unfolding judgedAt
   judge-none zero d n e = absurd (n refl)
   judge-none (suc l) d n e = rw e
 
-  pub judge-deep : (s .tally .left ≡ 0 → ⊥) → depth ≡ 0 → _≡_ {A = Ready} (record { go = false; state = endedAs Deep s; level = stoppedSlots lv }) (judgedAt depth (s .tally .left) s lv)
-  judge-deep n e = judge-none (s .tally .left) depth n e
+  pub judge-deep : (s .left ≡ 0 → ⊥) → depth ≡ 0 → _≡_ {A = Ready} (record { go = false; state = endedAs Deep s; level = stoppedSlots lv }) (judgedAt depth (s .left) s lv)
+  judge-deep n e = judge-none (s .left) depth n e
 
   judge-some : (l d : ℕ) → (l ≡ 0 → ⊥) → (d ≡ 0 → ⊥)
-      → _≡_ {A = Ready} (record { go = true; state = talliedAs (spentOne (l - 1) (s .tally)) s; level = lv }) (judgedAt d l s lv)
+      → _≡_ {A = Ready} (record { go = true; state = spentAs (l - 1) s; level = lv }) (judgedAt d l s lv)
   unfolding judgedAt
   judge-some zero d n m = absurd (n refl)
   judge-some (suc l) zero n m = absurd (m refl)
   judge-some (suc l) (suc d) n m = let e : suc l - 1 ≡ l = omega arith in rw e
 
-  pub judge-spend : (s .tally .left ≡ 0 → ⊥) → (depth ≡ 0 → ⊥)
-      → _≡_ {A = Ready} (record { go = true; state = talliedAs (spentOne (s .tally .left - 1) (s .tally)) s; level = lv }) (judgedAt depth (s .tally .left) s lv)
-  judge-spend n m = judge-some (s .tally .left) depth n m
+  pub judge-spend : (s .left ≡ 0 → ⊥) → (depth ≡ 0 → ⊥)
+      → _≡_ {A = Ready} (record { go = true; state = spentAs (s .left - 1) s; level = lv }) (judgedAt depth (s .left) s lv)
+  judge-spend n m = judge-some (s .left) depth n m
 
 -- ---- a record before its lookup is tried
 
@@ -89,11 +89,11 @@ module _ (done coming : List ℕ) (s : State) (lv : Slots) (seq : ℕ) where
   abbrev here : Stage
   here = stageOf done coming s lv
 
-  pub due-is : Fits done coming (s .place) → isDue (at seq) (stageOf done coming s lv) ≡ isDueAt (levelOf lv) (s .tally .ending) (sizeOf (s .place)) seq
-  due-is f = ap (λ (n : ℕ). isDueAt (levelOf lv) (s .tally .ending) n seq) (size-is f)
+  pub due-is : Fits done coming (s .place) → isDue (at seq) (stageOf done coming s lv) ≡ isDueAt (levelOf lv) (s .ending) (sizeOf (s .place)) seq
+  due-is f = ap (λ (n : ℕ). isDueAt (levelOf lv) (s .ending) n seq) (size-is f)
 
   -- what the code counts on where a record is due
-  pub due-shown : Able done coming s lv → isDueAt (levelOf lv) (s .tally .ending) (sizeOf (s .place)) seq ≡ true
+  pub due-shown : Able done coming s lv → isDueAt (levelOf lv) (s .ending) (sizeOf (s .place)) seq ≡ true
       → (seq < lv .count) × (getD (lv .at) seq 0 < length (textOf done coming (s .place) .glyphs)) × (getD (lv .at) seq 0 ≡ getD (take (lv .count) (lv .at)) seq 0)
   due-shown a e =
       let u = due-shows (at seq) (stageOf done coming s lv) (due-is (a .fits) ∙ e) in
@@ -102,7 +102,7 @@ module _ (done coming : List ℕ) (s : State) (lv : Slots) (seq : ℕ) where
       let q : getD (lv .at) seq 0 ≡ getD (take (lv .count) (lv .at)) seq 0 = sym (getD-take (lv .count) (lv .at) seq 0 i) in
       (i, omega (arith, u .inside), q)
 
-  pub prepared-none : (depth : ℕ) → Able done coming s lv → isDueAt (levelOf lv) (s .tally .ending) (sizeOf (s .place)) seq ≡ false
+  pub prepared-none : (depth : ℕ) → Able done coming s lv → isDueAt (levelOf lv) (s .ending) (sizeOf (s .place)) seq ≡ false
       → Prepared (readied depth (at seq) (stageOf done coming s lv)) done coming (record { go = false; state = s; level = lv })
   prepared-none depth a e =
       let q : isDue (at seq) (stageOf done coming s lv) ≡ false = due-is (a .fits) ∙ e in
@@ -113,7 +113,7 @@ module _ (done coming : List ℕ) (s : State) (lv : Slots) (seq : ℕ) where
     abbrev moved : State
     moved = partedAt place s
 
-    judged-so : (depth l : ℕ) → s .tally .left ≡ l → Neat lv → Holds done′ coming′ place (movedTo (placeOf (at seq) here) (textOf done coming (s .place)))
+    judged-so : (depth l : ℕ) → s .left ≡ l → Neat lv → Holds done′ coming′ place (movedTo (placeOf (at seq) here) (textOf done coming (s .place)))
         → Prepared (judged depth l (arrived (at seq) here)) done′ coming′ (judgedAt depth l moved lv)
     unfolding judged judgedAt
     judged-so depth zero e neat h = record {
@@ -132,21 +132,21 @@ module _ (done coming : List ℕ) (s : State) (lv : Slots) (seq : ℕ) where
       ran = record { fits = h .fits; is = λ j. spending l (changed (λ t. h .text j) (runOf done coming s)) };
     }
 
-    pub prepared-due : (depth p : ℕ) (r : Ready) → Able done coming s lv → isDueAt (levelOf lv) (s .tally .ending) (sizeOf (s .place)) seq ≡ true
-        → p ≡ getD (take (lv .count) (lv .at)) seq 0 → Holds done′ coming′ place (movedTo p (textOf done coming (s .place))) → r ≡ judgedAt depth (s .tally .left) moved lv
+    pub prepared-due : (depth p : ℕ) (r : Ready) → Able done coming s lv → isDueAt (levelOf lv) (s .ending) (sizeOf (s .place)) seq ≡ true
+        → p ≡ getD (take (lv .count) (lv .at)) seq 0 → Holds done′ coming′ place (movedTo p (textOf done coming (s .place))) → r ≡ judgedAt depth (s .left) moved lv
         → Prepared (readied depth (at seq) (stageOf done coming s lv)) done′ coming′ r
     prepared-due depth p r a e q h j =
         let d : isDue (at seq) (stageOf done coming s lv) ≡ true = due-is (a .fits) ∙ e in
-        rw (d, j) (judged-so depth (s .tally .left) refl (a .neat) (rw q at h))
+        rw (d, j) (judged-so depth (s .left) refl (a .neat) (rw q at h))
 
 -- ---- a level's end
 
 module _ (done coming : List ℕ) (s : State) (f : Fits done coming (s .place)) (end : ℕ) where
-  pub closed-over : isOver (s .tally .ending) ≡ true → Ran done coming s (closedAt end (runOf done coming s))
+  pub closed-over : isOver (s .ending) ≡ true → Ran done coming s (closedAt end (runOf done coming s))
   unfolding closedAt
   closed-over o = rw o (record { fits = f; is = refl })
 
-  pub closed-moves : (done′ coming′ : List ℕ) (place : Place) → isOver (s .tally .ending) ≡ false → Holds done′ coming′ place (movedTo end (textOf done coming (s .place)))
+  pub closed-moves : (done′ coming′ : List ℕ) (place : Place) → isOver (s .ending) ≡ false → Holds done′ coming′ place (movedTo end (textOf done coming (s .place)))
       → Ran done′ coming′ (partedAt place s) (closedAt end (runOf done coming s))
   unfolding closedAt
   closed-moves done′ coming′ place o h =

@@ -2,22 +2,24 @@
 use book::Entry;
 use levels::Slots;
 use runs::Ending;
-use runs::Tally;
 use text::Place;
 ghost use mathlib.Core.Path.{_≡_};
-ghost use Prim.Native.Nat.{_+_, _≤_, _<_};
+ghost use Prim.Native.Nat.{_+_, _-_, _≤_, _<_};
 ghost use lib.ListN.{length};
 ghost use Rattle.glyph.specs.Glyph.{limit};
 ghost use Rattle.text.specs.Text.{textOf, sizeOf, Fits};
 ghost use Rattle.book.specs.Inside.{Good};
 ghost use Rattle.levels.specs.Slots.{levelOf, Neat};
-ghost use Rattle.steps.specs.State.{runOf, stageOf, Ran, Able, at, isDueAt, begunAt, partedAt, talliedAs, endedAs, stoppedAs, judgedAt, readied, Prepared, closedAt, oneOn, manyOn, actedBy};
+ghost use Rattle.steps.specs.State.{runOf, stageOf, Ran, Able, at, isDueAt, begunAt, partedAt, endedAs, spentAs, stoppedAs, judgedAt, readied, Prepared, closedAt, oneOn, manyOn, actedBy};
 ghost use Rattle.runs.specs.Run.{mostAllowance};
 
-// A run under way: where the text is parted, and how the run stands. States are made by `begin`, `parted`, `tallied` and `ended`.
+// A run under way: where the text is parted, and its tally: the allowance that is left, the lookups tried so far, and how it would end now. States are
+// made by `begin`, `parted`, `ended` and `spend`. The tally's fields stand in it, and not in a struct of their own, which would be copied with its padding.
 pub struct State {
     pub place: Place,
-    pub tally: Tally,
+    pub left: u32,
+    pub spent: u32,
+    pub ending: Ending,
 }
 
 // A record before its lookup is tried: whether it is, and what the run and the level are then.
@@ -30,14 +32,13 @@ pub struct Ready {
 // Whether a record is due: its level goes on in a run that isn't over, its sequence index is below the count, its position is in the text.
 fn is_due(s: State, lv: Slots, seq: usize) -> bool
     requires { ⌜ Neat lv × (lv .count ≤ 64) × (s .place .idx ≤ limit) × (s .place .d ≤ s .place .idx) ⌝ }
-    ensures { λ r. ⌜ r ≡ isDueAt (levelOf lv) (s .tally .ending) (sizeOf (s .place)) seq ⌝ }
+    ensures { λ r. ⌜ r ≡ isDueAt (levelOf lv) (s .ending) (sizeOf (s .place)) seq ⌝ }
 {
     let live = lv.live;
     if !live {
         return false;
     }
-    let tally = s.tally;
-    let e = tally.ending;
+    let e = s.ending;
     if runs::is_over(e) {
         return false;
     }
@@ -55,40 +56,62 @@ fn is_due(s: State, lv: Slots, seq: usize) -> bool
 pub fn begin(place: Place, allowance: u32) -> State
     ensures { λ r. ⌜ r ≡ begunAt place allowance ⌝ }
 {
-    let tally = runs::fresh(allowance);
-    State { place, tally }
+    State {
+        place,
+        left: allowance,
+        spent: 0,
+        ending: Ending::Finished,
+    }
 }
 
 // The run with its text parted elsewhere.
 fn parted(s: State, place: Place) -> State
     ensures { λ r. ⌜ r ≡ partedAt place s ⌝ }
 {
-    let tally = s.tally;
-    State { place, tally }
+    let ending = s.ending;
+    State {
+        place,
+        left: s.left,
+        spent: s.spent,
+        ending,
+    }
 }
 
-// The run with another tally.
-fn tallied(s: State, tally: Tally) -> State
-    ensures { λ r. ⌜ r ≡ talliedAs tally s ⌝ }
-{
-    let place = s.place;
-    State { place, tally }
-}
-
+// The run with another ending.
 fn ended(s: State, ending: Ending) -> State
     ensures { λ r. ⌜ r ≡ endedAs ending s ⌝ }
 {
-    let tally = s.tally;
-    tallied(s, runs::ended(tally, ending))
+    let place = s.place;
+    let spent = s.spent;
+    State {
+        place,
+        left: s.left,
+        spent,
+        ending,
+    }
+}
+
+// The run with one try more.
+fn spend(s: State) -> State
+    requires { ⌜ (1 ≤ s .left) × (s .left + s .spent ≤ mostAllowance) ⌝ }
+    ensures { λ r. ⌜ r ≡ spentAs (s .left - 1) s ⌝ }
+{
+    let place = s.place;
+    let ending = s.ending;
+    State {
+        place,
+        left: s.left - 1,
+        spent: s.spent + 1,
+        ending,
+    }
 }
 
 // A due record, reached: allowance 0 is Short, depth 0 is Deep, else one is spent.
 fn judge(s: State, lv: Slots, depth: usize) -> Ready
-    requires { ⌜ s .tally .left + s .tally .spent ≤ mostAllowance ⌝ }
-    ensures { λ r. ⌜ r ≡ judgedAt depth (s .tally .left) s lv ⌝ }
+    requires { ⌜ s .left + s .spent ≤ mostAllowance ⌝ }
+    ensures { λ r. ⌜ r ≡ judgedAt depth (s .left) s lv ⌝ }
 {
-    let tally = s.tally;
-    if tally.left == 0 {
+    if s.left == 0 {
         return stop(s, lv, Ending::Short);
     }
     if depth == 0 {
@@ -96,7 +119,7 @@ fn judge(s: State, lv: Slots, depth: usize) -> Ready
     }
     Ready {
         go: true,
-        state: tallied(s, runs::spend(tally)),
+        state: spend(s),
         level: lv,
     }
 }
@@ -149,8 +172,7 @@ pub fn finish(done: &mut [u32], coming: &mut [u32], s: State, end: usize) -> Sta
     requires { ⌜ Fits (now done) (now coming) (s .place) × (end ≤ length (textOf (now done) (now coming) (s .place) .glyphs)) ⌝ }
     ensures { λ r. ⌜ Ran (now (done .exit)) (now (coming .exit)) r (closedAt end (runOf (now (done .entry)) (now (coming .entry)) s)) ⌝ }
 {
-    let tally = s.tally;
-    let ending = tally.ending;
+    let ending = s.ending;
     if runs::is_over(ending) {
         return s;
     }

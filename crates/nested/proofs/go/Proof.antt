@@ -31,12 +31,12 @@ same-length-2 c = search needs
 
 returns : tie.Need-returns
 returns c =
-    let a = c .before .before .before .before .before .before .before .before .before .before .before .before .before .before .before .before .before .before .before .before .before .before .before .before .before .args in
-    let r = c .before .before .before .before .before .before .before .before .before .before .before .before .before .before .before .before .chain in
-    let k = c .before .before .before .before .before .before .clear-outside in
+    let a = c .before .before .before .before .before .before .before .before .before .before .before .before .before .before .before .before .before .before .before .before .before .before .before .before .args in
+    let r = c .before .before .before .before .before .before .before .before .before .before .before .before .before .before .before .chain in
+    let k = c .before .before .before .before .before .clear-outside in
     let told = subst (λ (s : State). Chained (r .last .0) (r .last .1 .0) (r .result)
     (chainRun (ruled (a .given) (a .sets .now)) (lookupsOf (a .book .now)) (a .depth) (recordsOf (a .records .now)) (stageOf (a .done .now) (a .coming .now) s (a .m))))
-    (c .before .before .before .before .before .before .before .before .before .before .before .before .before .before .before .before .before .before .before .begin .ensures) (r .ensures) in
+    (c .before .before .before .before .before .before .before .before .before .before .before .before .before .before .before .before .before .before .begin .ensures) (r .ensures) in
     whole-is _ (r .last .0) (r .last .1 .0) (k .last .0) (k .last .1 .0) (r .result) told (k .ensures .0) (k .ensures .1)
 
 pub go-spec : {M : Type 1} → statement M

@@ -10,7 +10,7 @@ is-over-requires c κs = search needs
 
 returns : tie.Need-returns
 returns c =
-    let s = c .before .before .before .before .before in
+    let s = c .before .before .before .before in
     let a = s .args in
     closed-over (a .done .now) (a .coming .now) (a .s) (s .pre .0) (a .end) (sym (c .before .is-over .ensures) ∙ c .if1 .taken)
 
@@ -28,7 +28,7 @@ same-length-2 c = search needs
 
 returns-2 : tie.Need-returns-2
 returns-2 c =
-    let s = c .before .before .before .before .before .before .before .before .before .before .before .before .before .before in
+    let s = c .before .before .before .before .before .before .before .before .before .before .before .before .before in
     let a = s .args in
     let on = sym (c .before .before .before .before .before .before .before .before .before .before .is-over .ensures) ∙ c .before .before .before .before .before .before .before .before .before .if1 .left in
     rw (c .parted .ensures) (closed-moves (a .done .now) (a .coming .now) (a .s) (s .pre .0) (a .end) _ _ _ on (c .before .before .before .before .before .move-to .ensures))

@@ -64,7 +64,7 @@ returns-2 c =
     let s = c .before .before .before .before .before .before .before .before .before .before .before .before .before .before .before in
     let a = s .args in
     let is = sym (c .before .before .before .before .before .before .before .before .before .before .before .before .is-due .ensures) ∙ not-false _ (c .before .before .before .before .before .before .before .before .before .before .before .if1 .left) in
-    let told = c .judge .ensures ∙ ap (λ (x : State). judgedAt (a .depth) (x .tally .left) x (a .lv)) (c .before .parted .ensures) in
+    let told = c .judge .ensures ∙ ap (λ (x : State). judgedAt (a .depth) (x .left) x (a .lv)) (c .before .parted .ensures) in
     prepared-due (a .done .now) (a .coming .now) (a .s) (a .lv) (a .seq) _ _ _ (a .depth) _ (c .judge .result) (s .pre) is
     (due (c .before .before .before .before .before .before .before .before .before .before) .2) (c .before .before .before .before .before .before .move-to .ensures) told
 
