@@ -1,4 +1,4 @@
--- Demand 1 of the three calls, in 01's numbers (01, "When the desk says no"): refused by 1, 2, 3 or 6 exactly when that line holds and no line before it does, and nothing else is
+-- Demand 1 of the three calls, in 01's numbers (01, "When the desk says no"): refused by 1, 2, 3 or 6 exactly when that line refuses and no line before it does, and nothing else is
 -- refused: what no line refuses is matched, or lost by 4, or by 5 (which of these, and when: Promises). No slot is filled but by a match.
 use Prim.Native.Nat.{ℕ}
 use mathlib.Core.Path.{_≡_, refl, sym, ap, _∙_}
@@ -30,7 +30,7 @@ use Rattle.calls.specs.Table as table
 
 -- ---- what is said
 
--- input: by 1, 2 or 3, the number of the first line that refuses. 5 has no values either
+-- input: by 1, 2 or 3, the number of the first line that refuses. A reply of 5 has no values either; when it comes is said by InputPromise
 pub record InputRefusals (done : List ℕ) (d : ℕ) (coming : List ℕ) (len idx : ℕ) (sets : List ℕ) (values : ℕ) (answer : InputMatch) : Type 0 where
   pub refused : (n : ℕ) → (n ≡ 5 → ⊥) → (inputReply answer ≡ replies n []) ↔ RefusedBy n (inputLines done d coming len idx sets values)
   pub let-through : InputAcceptable done d coming len idx sets values

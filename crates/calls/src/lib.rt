@@ -185,7 +185,7 @@ fn back_fit(
     first_line(bad, len <= idx, MAX_CONTEXT_LENGTH < values, false)
 }
 
-// The first line of 01's table that holds, in its order: 1, 2, 3, 6.
+// The first line of 01's table that refuses, in its order: 1, 2, 3, 6.
 fn first_line(bad: bool, past: bool, many: bool, unbegun: bool) -> Fit
     ensures { λ r. ⌜ r ≡ cond bad (Fit.Refused Shape) (cond past (Fit.Refused Cursor) (cond many (Fit.Refused Values) (cond unbegun (Fit.Refused Start) Fit.Fits))) ⌝ }
 {

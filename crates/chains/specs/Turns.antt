@@ -13,7 +13,7 @@ use Rattle.book.specs.Book.{Record, Lookup, recordsOf, lookupsOf}
 use Rattle.book.specs.Records.{records-step, records-end}
 use Rattle.runs.specs.declared.Given.{Given}
 use Rattle.runs.specs.Repair.{Level, repaired, Sound}
-use Rattle.runs.specs.Run.{Run, Stage, Act, size, changed, when, placeOf, isDue, isOver, arrived, spending, followedBy, triedBy, dueBy, stepBy, recordsBy, closed, acting, mending, chainRun, lookupRun, mostAllowance}
+use Rattle.runs.specs.Run.{Run, Stage, Effect, size, changed, when, placeOf, isDue, isOver, arrived, spending, followedBy, triedBy, dueBy, stepBy, recordsBy, closed, acting, mending, chainRun, lookupRun, mostAllowance}
 use Rattle.runs.specs.Rises.{repaired-mends}
 use Rattle.runs.specs.Kept as kept
 use Rattle.runs.specs.Kept.{Kept, Keeps, Due, step-good, lookup-keeps, due-shows, records-good}
@@ -34,21 +34,21 @@ recordAt recs i = record { seq = getD recs i 0; lookup = getD recs (i + 1) 0 }
 
 -- ---- a step, by whether the record's lookup is tried
 
-abbrev tryIt : (ℕ → Act) → Record → Stage → Stage
-tryIt acts r w = followedBy (acts (r .lookup) .repair) r w (acts (r .lookup) .does (w .run))
+abbrev tryIt : (ℕ → Effect) → Record → Stage → Stage
+tryIt effects r w = followedBy (effects (r .lookup) .repair) r w (effects (r .lookup) .does (w .run))
 
-judged-tries : (acts : ℕ → Act) (depth l : ℕ) (r : Record) (v : Stage) → triedBy acts depth l r v ≡ when (judged depth l v .go) (tryIt acts r) (judged depth l v .stage)
+judged-tries : (effects : ℕ → Effect) (depth l : ℕ) (r : Record) (v : Stage) → triedBy effects depth l r v ≡ when (judged depth l v .go) (tryIt effects r) (judged depth l v .stage)
 unfolding triedBy judged
-judged-tries acts depth zero r v = refl
-judged-tries acts zero (suc l) r v = refl
-judged-tries acts (suc depth) (suc l) r v = refl
+judged-tries effects depth zero r v = refl
+judged-tries effects zero (suc l) r v = refl
+judged-tries effects (suc depth) (suc l) r v = refl
 
-step-is : (acts : ℕ → Act) (depth : ℕ) (r : Record) (v : Stage) → stepBy acts depth r v ≡ when (readied depth r v .go) (tryIt acts r) (readied depth r v .stage)
-step-is acts depth r v = by (isDue r v)
+step-is : (effects : ℕ → Effect) (depth : ℕ) (r : Record) (v : Stage) → stepBy effects depth r v ≡ when (readied depth r v .go) (tryIt effects r) (readied depth r v .stage)
+step-is effects depth r v = by (isDue r v)
   where
-    by : (b : Bool) → when b (dueBy acts depth r) v
-        ≡ when (cond b (judged depth (v .run .tally .left) (arrived r v)) (record { go = false; stage = v }) .go) (tryIt acts r) (cond b (judged depth (v .run .tally .left) (arrived r v)) (record { go = false; stage = v }) .stage)
-    by true = judged-tries acts depth (v .run .tally .left) r (arrived r v)
+    by : (b : Bool) → when b (dueBy effects depth r) v
+        ≡ when (cond b (judged depth (v .run .tally .left) (arrived r v)) (record { go = false; stage = v }) .go) (tryIt effects r) (cond b (judged depth (v .run .tally .left) (arrived r v)) (record { go = false; stage = v }) .stage)
+    by true = judged-tries effects depth (v .run .tally .left) r (arrived r v)
     by false = refl
 
 -- what is so where it is tried
@@ -135,7 +135,7 @@ module _ (given : Given) (sets ws : List ℕ) where
   lookupOf zero k x = x
   lookupOf (suc d) k x = lookupRun (ruled given sets) (lookupsOf ws) d k x
 
-  abbrev pub nestedAt : ℕ → ℕ → Act
+  abbrev pub nestedAt : ℕ → ℕ → Effect
   nestedAt d = acting (mending (ruled given sets) (lookupsOf ws)) (lookupOf d)
 
   pub nested-is : (d k : ℕ) (x : Run) → 1 ≤ d → lookupOf d k x ≡ lookupRun (ruled given sets) (lookupsOf ws) (d - 1) k x

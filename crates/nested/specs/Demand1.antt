@@ -5,16 +5,19 @@ use mathlib.Core.List.{[]}
 use mathlib.Core.Logic.{_↔_, Iff·trans, _⊎_, inl, inr, ⊎-elim}
 use Prim.Native.Nat.{ℕ}
 use Rattle.glyph.specs.Order.{RefusedBy}
-use Rattle.text.specs.Text.{textOf}
+use Rattle.text.specs.Text.{textOf, written}
 use Rattle.matching.specs.Answers.{endOf}
 use Rattle.book.specs.Book.{recordsOf, lookupsOf}
 use Rattle.runs.specs.declared.Ending.{Ending}
 use Rattle.runs.specs.declared.Ending.the-variants.{Finished, Short, Deep, Full}
 use Rattle.runs.specs.Run.{Stage, opened, begun, movedLevel}
+use Rattle.runs.specs.Repair.{repaired}
+use Rattle.runs.specs.Chain.{chainBy}
 use Rattle.runs.specs.Deeds.{ruled}
 use Rattle.runs.specs.Met.{Met}
 use Rattle.runs.specs.Promises.{short-exactly}
-use Rattle.runs.specs.Stops.{MetDepth, MetLimit, deep-exactly, full-exactly}
+use Rattle.runs.specs.Stops.{MetDepth, deep-exactly}
+use Rattle.runs.specs.Full.{MetLimit, full-exactly}
 use Rattle.nested.specs.declared.Checked.{Checked}
 use Rattle.nested.specs.Calls.{SaidBy, endingNumber, Handed, checkedAll, runSays}
 use Rattle.nested.specs.Lines.{placesOf}
@@ -90,5 +93,6 @@ module _ (h : Handed) (a d : ℕ) (l : Left) (c : Called h a d l) where
         );
         short-8 = ends Short (short-exactly rules (lookupsOf (h .book)) (recordsOf (h .records)) (first .positions) (first .end) t d a);
         deep-9 = ends Deep (deep-exactly rules (lookupsOf (h .book)) (recordsOf (h .records)) (first .positions) (first .end) t d a);
-        full-10 = ends Full (full-exactly rules (lookupsOf (h .book)) (recordsOf (h .records)) (first .positions) (first .end) t d a);
+        full-10 = ends Full
+            (full-exactly (chainBy (h .given) (h .sets)) written (λ found. repaired) (lookupsOf (h .book)) (recordsOf (h .records)) (first .positions) (first .end) t d a);
       }

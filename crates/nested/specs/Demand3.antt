@@ -259,8 +259,8 @@ demand-3 h h′ s = record {
         short-by h′ a d l (handed-over h h′ s a d l c y) y a′ l′ c′ (omega (arith, spent-first (l .answer) (l .answer .ending) n values refl z))
 
 -- so for every two that differ in allowance and depth alone
-pub same-rows : (h : Handed) → SameText h h
-same-rows h = record {
+pub same-handed : (h : Handed) → SameText h h
+same-handed h = record {
   text = refl;
   done-long = refl;
   coming-long = refl;

@@ -1,5 +1,5 @@
 -- A run touches no glyph before the match's first position, which is the cursor, and leaves rising positions (01, "Records over a text"), said of calls.
--- Every chain of a book that reads matches in its text, so what is shown of any fair way of matching chains holds of the run.
+-- Every chain of a book that reads matches in its text, so what is shown of any fair rules holds of the run.
 use mathlib.Core.Path.{_≡_, refl, sym, ap, ap₂, subst, _∙_}
 use mathlib.Core.Bool.{true}
 use mathlib.Core.List.{List}

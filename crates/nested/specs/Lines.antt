@@ -1,4 +1,5 @@
--- What each line of the run's refusals lets pass (01, "When the desk says no"): the line holds where that isn't so. That a call is refused by exactly the first line that holds: Demand1.
+-- What each line of the run's refusals lets pass (01, "When the desk says no"): the line refuses where that isn't so. That a
+-- call is refused by exactly the first line that refuses: Demand1.
 use mathlib.Core.Path.{_≡_}
 use mathlib.Core.List.{List}
 use mathlib.Core.Logic.{_⊎_}

@@ -3,7 +3,6 @@
 use mathlib.Core.Path.{_≡_, refl}
 use mathlib.Core.Bool.{Bool, true, false, cond}
 use mathlib.Core.List.{List, [], _∷_, map}
-use mathlib.Core.Logic.{_↔_}
 use Prim.Native.Nat.{ℕ, _≤_, _<_}
 use native.Mathlib.Omega.{arith}
 use lib.ListN.{length, length-map}
@@ -13,7 +12,7 @@ use Rattle.text.specs.Changes.{replaced-length, replaced-before}
 use Rattle.verdict.specs.Verdict.{Asked, equalTo}
 use Rattle.book.specs.Book.{Chain, Lookup, Kind1, Kind2, Kind3, Found, Is, None, lookupAt, mostInput}
 use Rattle.runs.specs.declared.Given.{Given}
-use Rattle.runs.specs.Run.{PastLimit, Made, Into, Halts, Match, Deed, Acts, Chains}
+use Rattle.runs.specs.Run.{PastLimit, Made, Into, Halts, Match, Deed}
 use Rattle.runs.specs.Repair.{Repairing, Mends, repaired}
 use Rattle.runs.specs.Rises.{repaired-mends}
 use Rattle.runs.specs.Kept.{Sparing, FairDeed, Fitting, Fair}
@@ -81,41 +80,6 @@ rules-fair given sets write repair mends book few = record {
 
 pub ruled-fair : (given : Given) (sets : List ℕ) (book : List Lookup) → FewValues book → Fair (ruled given sets) book
 ruled-fair given sets = rules-fair given sets written (λ found. repaired) (λ found. repaired-mends)
-
--- ---- what stops a run: kind 2 at its id, where the text would pass the limit; and no other lookup (01, "Records over a text": Full)
-
-abbrev pub HaltsAt : Deed → Text → Type 0
-HaltsAt (Acts act) t = act t ≡ Halts PastLimit
-HaltsAt (Chains match records) t = ⊥
-
-abbrev pub Overfills : Found → Text → Type 0
-Overfills (Is (Kind1 props from to)) t = ⊥
-Overfills (Is (Kind2 props from ids)) t = (isAt from t ≡ true) × (isFull (length (t .glyphs)) (length ids) ≡ true)
-Overfills (Is (Kind3 props chain)) t = ⊥
-Overfills None t = ⊥
-
-goes-on : {t : Text} → Into t ≡ Halts PastLimit → ⊥
-goes-on e = let z : _≡_ {A = ℕ} 0 1 = cc in omega arith
-
-pub limit-exactly : (match : ℕ → Chain Asked → Text → Match) (write : ℕ → Glyph → Glyph) (found : Found) (t : Text)
-    → HaltsAt (deedBy match write found) t ↔ Overfills found t
-unfolding deedBy
-limit-exactly match write (Is (Kind1 props from to)) t = (by (isAt from t), λ z. absurd z)
-  where
-    by : (b : Bool) → cond b (renamedBy write to t) (Into t) ≡ Halts PastLimit → ⊥
-    by true e = goes-on e
-    by false e = goes-on e
-limit-exactly match write (Is (Kind2 props from ids)) t = (
-  by (isAt from t) (isFull (length (t .glyphs)) (length ids)),
-  λ h. rw (h .0, h .1),
-)
-  where
-    by : (b c : Bool) → cond b (cond c (Halts PastLimit) (Into (replacedBy write ids t))) (Into t) ≡ Halts PastLimit → (b ≡ true) × (c ≡ true)
-    by true true e = (refl, refl)
-    by true false e = absurd (goes-on e)
-    by false c e = absurd (goes-on e)
-limit-exactly match write (Is (Kind3 props chain)) t = (λ z. z, λ z. z)
-limit-exactly match write None t = (λ e. goes-on e, λ z. absurd z)
 
 -- ---- a relation that one replacement keeps
 

@@ -1,5 +1,5 @@
--- What each kind of lookup does at the cursor (01, "Records over a text"), and the rules of a run. A lookup is taken apart here and nowhere else:
--- a further kind is one line of `deedBy`. A record's position is in the text, so a glyph is at the cursor.
+-- What each kind of lookup does at the cursor (01, "Records over a text"), and the rules of a run. Of the definitions of a run this one alone goes by the
+-- kinds: a further kind is a line of `deedBy`. A record's position is in the text, so a glyph is at the cursor.
 use mathlib.Core.Bool.{Bool, cond}
 use mathlib.Core.List.{List, [], _∷_, map}
 use Prim.Native.Nat.{ℕ}
@@ -28,13 +28,13 @@ module _ (write : ℕ → Glyph → Glyph) where
   abbrev pub renamedBy : ℕ → Text → Made
   renamedBy to t = Into (replacedBy write (to ∷ []) t)
 
-  -- kind 2: the glyph becomes one for each id; where the text would pass its limit nothing is written, and the run stops
+  -- kind 2: the glyph becomes one for each id; where the text would pass its limit nothing is written, and the run ends
   abbrev pub multipliedBy : List ℕ → Text → Made
   multipliedBy ids t = cond (isFull (length (t .glyphs)) (length ids)) (Halts PastLimit) (Into (replacedBy write ids t))
 
 -- ---- chains
 
--- values as what they ask of a glyph, each part by a test of its own; the cursor glyph's by a test that is handed in beside the input's
+-- values as what they ask of a glyph: a test for the cursor glyph's value, and one for those of each part
 abbrev pub askedBy : {X : Type 0} → (X → Asked) → (X → Asked) → (X → Asked) → (X → Asked) → Chain X → Chain Asked
 askedBy first backtrack input lookahead c = record {
   first = first (c .first);

@@ -14,7 +14,7 @@ use Rattle.glyph.specs.declared.Glyph.{Glyph}
 use Rattle.text.specs.Text.{Text, movedTo}
 use Rattle.book.specs.Book.{Record, Lookup, Found, lookupAt}
 use Rattle.runs.specs.Repair.{Level, Mends, Sound}
-use Rattle.runs.specs.Run.{Run, Stage, Act, Made, Into, Halts, madeIn, Match, Matched, Unmatched, Deed, Acts, Chains, Rules, isOver, size, changed, when}
+use Rattle.runs.specs.Run.{Run, Stage, Effect, Made, Into, Halts, madeIn, Match, Matched, Unmatched, Deed, Acts, Chains, Rules, isOver, size, changed, when}
 use Rattle.runs.specs.Run.{inRun, opened, chainedBy, doneBy, placeOf, isDue, arrived, spending, followedBy, triedBy, dueBy, stepBy, recordsBy, closed}
 use Rattle.runs.specs.Run.{acting, mending, deedAt, chainRun, lookupRun}
 use Rattle.runs.specs.Rises.{rises-at}
@@ -105,8 +105,8 @@ due-shows r v e =
       live = and-left a (b && (i && p)) e;
     }
 
-module _ (acts : ℕ → Act) (K : (k : ℕ) → Keeps (acts k .does)) (M : (k : ℕ) → Mends (acts k .repair)) where
-  tried-good : (d l : ℕ) (r : Record) (low : ℕ) (x : Run) (v : Stage) → Due r v → Good low x v → Good low x (triedBy acts d l r (arrived r v))
+module _ (effects : ℕ → Effect) (K : (k : ℕ) → Keeps (effects k .does)) (M : (k : ℕ) → Mends (effects k .repair)) where
+  tried-good : (d l : ℕ) (r : Record) (low : ℕ) (x : Run) (v : Stage) → Due r v → Good low x v → Good low x (triedBy effects d l r (arrived r v))
   unfolding triedBy
   tried-good d zero r low x v u g = record {
     level = record { few = g .level .few; rises = g .level .rises; begins = g .level .begins; within = g .level .within };
@@ -118,25 +118,25 @@ module _ (acts : ℕ → Act) (K : (k : ℕ) → Keeps (acts k .does)) (M : (k :
   }
   tried-good (suc d) (suc l) r low x v u g =
       let y : Run = spending l (arrived r v .run) in
-      let k : Kept (placeOf r v) y (acts (r .lookup) .does y) = K (r .lookup) y (u .inside) in
+      let k : Kept (placeOf r v) y (effects (r .lookup) .does y) = K (r .lookup) y (u .inside) in
       let q = rises-at (r .seq) (u .index) (g .level .rises) in
       let o : Kept low x y = record { before = g .kept .before; long = g .kept .long } in
       record {
-        level = M (r .lookup) low (size (v .run)) (v .level) (g .level) (r .seq) (u .index) (size (acts (r .lookup) .does y)) (k .long);
+        level = M (r .lookup) low (size (v .run)) (v .level) (g .level) (r .seq) (u .index) (size (effects (r .lookup) .does y)) (k .long);
         kept = kept-on (omega (arith, q .0)) o k;
       }
 
-  pub step-good : (d : ℕ) (r : Record) → KeepsLevel (stepBy acts d r)
+  pub step-good : (d : ℕ) (r : Record) → KeepsLevel (stepBy effects d r)
   step-good d r low x v g = by (isDue r v) refl
     where
-      by : (b : Bool) → isDue r v ≡ b → Good low x (when b (dueBy acts d r) v)
+      by : (b : Bool) → isDue r v ≡ b → Good low x (when b (dueBy effects d r) v)
       by true e = tried-good d (v .run .tally .left) r low x v (due-shows r v e) g
       by false e = g
 
-  pub records-good : (d : ℕ) (rs : List Record) → KeepsLevel (recordsBy acts d rs)
+  pub records-good : (d : ℕ) (rs : List Record) → KeepsLevel (recordsBy effects d rs)
   unfolding recordsBy
   records-good d [] low x v g = g
-  records-good d (r ∷ rs) low x v g = records-good d rs low x (stepBy acts d r v) (step-good d r low x v g)
+  records-good d (r ∷ rs) low x v g = records-good d rs low x (stepBy effects d r v) (step-good d r low x v g)
 
 closed-good : KeepsLevel closed
 unfolding closed

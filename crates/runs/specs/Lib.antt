@@ -13,4 +13,5 @@ pub mod Over
 pub mod Stops
 pub mod Related
 pub mod DeedLaws
+pub mod Full
 pub mod Drawn

@@ -5,7 +5,7 @@ use mathlib.Core.List.{List, [], _∷_}
 use mathlib.Core.Logic.{_⊎_}
 use Prim.Native.Nat.{ℕ, zero, suc}
 use Rattle.book.specs.Book.{Record, Lookup}
-use Rattle.runs.specs.Run.{Run, Stage, Act, Deed, Acts, Chains, Rules, Match, Matched, Unmatched, opened, isDue, arrived, spending, stepBy, acting, mending, deedAt, lookupRun}
+use Rattle.runs.specs.Run.{Run, Stage, Effect, Deed, Acts, Chains, Rules, Match, Matched, Unmatched, opened, isDue, arrived, spending, stepBy, acting, mending, deedAt, lookupRun}
 
 -- at a due record, by the depth and the allowance that are left; `met k x` says it of lookup k, tried on x
 abbrev pub MetTry : (ℕ → Run → Type 0) → ℕ → ℕ → Record → Stage → Type 0
@@ -14,10 +14,10 @@ MetTry met zero (suc left) r v = ⊥
 MetTry met (suc depth) (suc left) r v = met (r .lookup) (spending left (v .run))
 
 -- at one of the records, as the ones before it left the level
-unfoldable pub MetRecords : (ℕ → Run → Type 0) → (ℕ → Act) → ℕ → List Record → Stage → Type 0
-MetRecords met acts depth [] v = ⊥
-MetRecords met acts depth (r ∷ rs) v =
-    ((isDue r v ≡ true) × MetTry met depth (v .run .tally .left) r (arrived r v)) ⊎ MetRecords met acts depth rs (stepBy acts depth r v)
+unfoldable pub MetRecords : (ℕ → Run → Type 0) → (ℕ → Effect) → ℕ → List Record → Stage → Type 0
+MetRecords met effects depth [] v = ⊥
+MetRecords met effects depth (r ∷ rs) v =
+    ((isDue r v ≡ true) × MetTry met depth (v .run .tally .left) r (arrived r v)) ⊎ MetRecords met effects depth rs (stepBy effects depth r v)
 
 abbrev pub MetMatch : (Stage → Type 0) → Match → Run → Type 0
 MetMatch met (Matched positions end) x = met (opened positions end x)

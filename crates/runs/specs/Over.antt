@@ -1,5 +1,5 @@
--- After Deep, and after what stops a run for a reason, no record at any level is looked at again, and no level ends by a move (01, "Records over a text"): where the run is over, a level's
--- records leave everything as it is; levels above only repair their positions for what was changed below them.
+-- After Deep or Full no record at any level is looked at again, and no level ends by a move (01, "Records over a text"): where a run is over, for whatever
+-- reason, a level's records leave everything as it is; levels above only repair their positions for what was changed below them.
 use mathlib.Core.Path.{_≡_, refl, sym, ap, _∙_}
 use mathlib.Core.Bool.{Bool, true, false, _&&_, true≢false}
 use mathlib.Core.List.{List, [], _∷_}
@@ -8,7 +8,7 @@ use Rattle.book.specs.Book.{Record, Lookup}
 use Rattle.runs.specs.declared.Ending.{Ending}
 use Rattle.runs.specs.declared.Ending.the-variants.{Finished, Short}
 use Rattle.runs.specs.Repair.{Repairing}
-use Rattle.runs.specs.Run.{Run, Stage, Act, Rules, Reason, PastLimit, endingFor, isOver, isDue, followedBy, stepBy, recordsBy, closed, chainRun, acting, mending, lookupRun}
+use Rattle.runs.specs.Run.{Run, Stage, Effect, Rules, Reason, PastLimit, endingFor, isOver, isDue, followedBy, stepBy, recordsBy, closed, chainRun, acting, mending, lookupRun}
 
 -- ---- what is over
 
@@ -32,14 +32,14 @@ over-not-due r v e = rw e (by (v .level .live))
     by true = refl
     by false = refl
 
-module _ (acts : ℕ → Act) (depth : ℕ) where
-  step-over : (r : Record) (v : Stage) → isOver (v .run .tally .ending) ≡ true → stepBy acts depth r v ≡ v
+module _ (effects : ℕ → Effect) (depth : ℕ) where
+  step-over : (r : Record) (v : Stage) → isOver (v .run .tally .ending) ≡ true → stepBy effects depth r v ≡ v
   step-over r v e = rw (over-not-due r v e)
 
-  pub over-stays : (rs : List Record) (v : Stage) → isOver (v .run .tally .ending) ≡ true → recordsBy acts depth rs v ≡ v
+  pub over-stays : (rs : List Record) (v : Stage) → isOver (v .run .tally .ending) ≡ true → recordsBy effects depth rs v ≡ v
   unfolding recordsBy
   over-stays [] v e = refl
-  over-stays (r ∷ rs) v e = ap (recordsBy acts depth rs) (step-over r v e) ∙ over-stays rs v e
+  over-stays (r ∷ rs) v e = ap (recordsBy effects depth rs) (step-over r v e) ∙ over-stays rs v e
 
 pub over-unmoved : (v : Stage) → isOver (v .run .tally .ending) ≡ true → closed v ≡ v
 unfolding closed
@@ -53,6 +53,6 @@ over-level rules book zero rs v e = ap closed (over-stays (acting (mending rules
 over-level rules book (suc d) rs v e = ap closed (over-stays (acting (mending rules book) (lookupRun rules book d)) (suc d) rs v e) ∙ over-unmoved v e
 
 -- and of a level above: the record's lookup left the run y, which is over; its positions are repaired, and that is all
-pub over-above : (repair : Repairing) (acts : ℕ → Act) (depth : ℕ) (r : Record) (rs : List Record) (v : Stage) (y : Run) → isOver (y .tally .ending) ≡ true
-    → closed (recordsBy acts depth rs (followedBy repair r v y)) ≡ followedBy repair r v y
-over-above repair acts depth r rs v y e = ap closed (over-stays acts depth rs (followedBy repair r v y) e) ∙ over-unmoved (followedBy repair r v y) e
+pub over-above : (repair : Repairing) (effects : ℕ → Effect) (depth : ℕ) (r : Record) (rs : List Record) (v : Stage) (y : Run) → isOver (y .tally .ending) ≡ true
+    → closed (recordsBy effects depth rs (followedBy repair r v y)) ≡ followedBy repair r v y
+over-above repair effects depth r rs v y e = ap closed (over-stays effects depth rs (followedBy repair r v y) e) ∙ over-unmoved (followedBy repair r v y) e

@@ -9,7 +9,7 @@ use lib.ListN.{length}
 use Rattle.glyph.specs.declared.Glyph.{Glyph}
 use Rattle.text.specs.Text.{Text, movedTo}
 use Rattle.book.specs.Book.{Record, Lookup, Found, lookupAt}
-use Rattle.runs.specs.Run.{Run, Stage, Act, Made, Into, Halts, madeIn, Match, Matched, Unmatched, Deed, Acts, Chains, Rules, isOver, size, changed}
+use Rattle.runs.specs.Run.{Run, Stage, Effect, Made, Into, Halts, madeIn, Match, Matched, Unmatched, Deed, Acts, Chains, Rules, isOver, size, changed}
 use Rattle.runs.specs.Run.{when, opened, begun, chainedBy, doneBy, isDue, arrived, spending, triedBy, dueBy, stepBy, recordsBy, closed}
 use Rattle.runs.specs.Run.{acting, mending, deedAt, chainRun, lookupRun, runOn}
 use Rattle.runs.specs.Kept.{Due, due-shows}
@@ -56,24 +56,24 @@ module _ (rules : Rules) (book : List Lookup) (R : List Glyph → List Glyph →
   deed-relates : (chain : List Record → Stage → Stage) → ((rs : List Record) → RelatesLevel (chain rs)) → (k : ℕ) → Relates (doneBy chain (deedAt rules book k))
   deed-relates chain C k = done-relates chain C (deedAt rules book k) (lasting .deeds (lookupAt k book))
 
-  module _ (acts : ℕ → Act) (F : (k : ℕ) → Relates (acts k .does)) where
-    tried-relates : (d l : ℕ) (r : Record) (v : Stage) → Due r v → R (v .run .text .glyphs) (triedBy acts d l r (arrived r v) .run .text .glyphs)
+  module _ (effects : ℕ → Effect) (F : (k : ℕ) → Relates (effects k .does)) where
+    tried-relates : (d l : ℕ) (r : Record) (v : Stage) → Due r v → R (v .run .text .glyphs) (triedBy effects d l r (arrived r v) .run .text .glyphs)
     unfolding triedBy
     tried-relates d zero r v u = unchanged (v .run)
     tried-relates zero (suc l) r v u = unchanged (v .run)
     tried-relates (suc d) (suc l) r v u = F (r .lookup) (spending l (arrived r v .run)) (u .inside)
 
-    step-relates : (d : ℕ) (r : Record) → RelatesLevel (stepBy acts d r)
+    step-relates : (d : ℕ) (r : Record) → RelatesLevel (stepBy effects d r)
     step-relates d r v = by (isDue r v) refl
       where
-        by : (b : Bool) → isDue r v ≡ b → R (v .run .text .glyphs) (when b (dueBy acts d r) v .run .text .glyphs)
+        by : (b : Bool) → isDue r v ≡ b → R (v .run .text .glyphs) (when b (dueBy effects d r) v .run .text .glyphs)
         by true e = tried-relates d (v .run .tally .left) r v (due-shows r v e)
         by false e = unchanged (v .run)
 
-    records-relates : (d : ℕ) (rs : List Record) → RelatesLevel (recordsBy acts d rs)
+    records-relates : (d : ℕ) (rs : List Record) → RelatesLevel (recordsBy effects d rs)
     unfolding recordsBy
     records-relates d [] v = unchanged (v .run)
-    records-relates d (r ∷ rs) v = lasting .on _ _ _ (step-relates d r v) (records-relates d rs (stepBy acts d r v))
+    records-relates d (r ∷ rs) v = lasting .on _ _ _ (step-relates d r v) (records-relates d rs (stepBy effects d r v))
 
   closed-same : (v : Stage) → closed v .run .text .glyphs ≡ v .run .text .glyphs
   unfolding closed

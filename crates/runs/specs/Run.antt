@@ -12,7 +12,7 @@ use Rattle.runs.specs.declared.Ending.{Ending}
 use Rattle.runs.specs.declared.Ending.the-variants.{Finished, Short, Deep, Full}
 use Rattle.runs.specs.Repair.{Level, Repairing}
 
--- ---- a run: the text, and how the run stands. Both are made by the helpers below and nowhere else
+-- ---- a run: the text, and how the run stands. What changes one of them is a helper below
 
 -- the allowance that is left, the lookups tried so far, and how the run would end now
 pub record Tally : Type 0 where
@@ -57,14 +57,14 @@ size x = length (x .text .glyphs)
 
 -- ---- endings
 
--- after Deep, and after what stops a run for a reason, no record at any level is looked at again
+-- after Deep or Full no record at any level is looked at again
 abbrev pub isOver : Ending → Bool
 isOver Finished = false
 isOver Short = false
 isOver Deep = true
 isOver Full = true
 
--- why a lookup stops a run: its result would pass the limit. A further reason is a case here and a line of `endingFor`
+-- why a lookup ends a run: its result would pass the limit. A further reason is a case here and a line of `endingFor`
 pub data Reason : Type 0 where
   PastLimit : Reason
 
@@ -87,7 +87,7 @@ when false f x = x
 
 -- ---- what a lookup does at the cursor
 
--- what it makes of a text by itself: another text, which may be the same, or none, and the run stops
+-- what it makes of a text by itself: another text, which may be the same, or none, and the run ends for a reason
 pub data Made : Type 0 where
   Into : Text → Made
   Halts : Reason → Made
@@ -142,35 +142,35 @@ abbrev pub stopped : Ending → Stage → Stage
 stopped e v = record { level = record { live = false; positions = v .level .positions; end = v .level .end }; run = endingAs e (v .run) }
 
 -- a lookup as a record meets it: what it does to a run, and how the record's level is repaired after it
-pub record Act : Type 0 where
+pub record Effect : Type 0 where
   pub does : Run → Run
   pub repair : Repairing
 
 -- each lookup with its repair
-abbrev pub acting : (ℕ → Repairing) → (ℕ → Run → Run) → ℕ → Act
+abbrev pub acting : (ℕ → Repairing) → (ℕ → Run → Run) → ℕ → Effect
 acting mend lookup k = record { does = lookup k; repair = mend k }
 
--- the positions after the record's lookup made y of the run x
+-- the positions after the record's lookup left the run y
 abbrev pub followedBy : Repairing → Record → Stage → Run → Stage
 followedBy repair r v y = record { level = repair (r .seq) (size (v .run)) (size y) (v .level); run = y }
 
 -- a due record, by the depth and the allowance that are left: allowance 0, Short; depth 0, Deep; else one is spent and its lookup applied
-unfoldable pub triedBy : (ℕ → Act) → ℕ → ℕ → Record → Stage → Stage
-triedBy acts depth zero r v = stopped Short v
-triedBy acts zero (suc left) r v = stopped Deep v
-triedBy acts (suc depth) (suc left) r v = followedBy (acts (r .lookup) .repair) r v (acts (r .lookup) .does (spending left (v .run)))
+unfoldable pub triedBy : (ℕ → Effect) → ℕ → ℕ → Record → Stage → Stage
+triedBy effects depth zero r v = stopped Short v
+triedBy effects zero (suc left) r v = stopped Deep v
+triedBy effects (suc depth) (suc left) r v = followedBy (effects (r .lookup) .repair) r v (effects (r .lookup) .does (spending left (v .run)))
 
-abbrev pub dueBy : (ℕ → Act) → ℕ → Record → Stage → Stage
-dueBy acts depth r v = triedBy acts depth (v .run .tally .left) r (arrived r v)
+abbrev pub dueBy : (ℕ → Effect) → ℕ → Record → Stage → Stage
+dueBy effects depth r v = triedBy effects depth (v .run .tally .left) r (arrived r v)
 
-abbrev pub stepBy : (ℕ → Act) → ℕ → Record → Stage → Stage
-stepBy acts depth r v = when (isDue r v) (dueBy acts depth r) v
+abbrev pub stepBy : (ℕ → Effect) → ℕ → Record → Stage → Stage
+stepBy effects depth r v = when (isDue r v) (dueBy effects depth r) v
 
 -- ---- a level
 
-unfoldable pub recordsBy : (ℕ → Act) → ℕ → List Record → Stage → Stage
-recordsBy acts depth [] v = v
-recordsBy acts depth (r ∷ rs) v = recordsBy acts depth rs (stepBy acts depth r v)
+unfoldable pub recordsBy : (ℕ → Effect) → ℕ → List Record → Stage → Stage
+recordsBy effects depth [] v = v
+recordsBy effects depth (r ∷ rs) v = recordsBy effects depth rs (stepBy effects depth r v)
 
 -- a level ends by moving to its end, except in a run that is over
 unfoldable pub closed : Stage → Stage

@@ -16,7 +16,7 @@ use Rattle.book.specs.Book.{Record, Lookup}
 use Rattle.runs.specs.declared.Ending.{Ending}
 use Rattle.runs.specs.declared.Ending.the-variants.{Finished, Short, Deep}
 use Rattle.runs.specs.Repair.{Level, Repairing}
-use Rattle.runs.specs.Run.{Run, Stage, Act, Reason, endingFor, Made, Into, Halts, madeIn, Match, Matched, Unmatched, Deed, Acts, Chains, Rules, isOver, changed}
+use Rattle.runs.specs.Run.{Run, Stage, Effect, Reason, endingFor, Made, Into, Halts, madeIn, Match, Matched, Unmatched, Deed, Acts, Chains, Rules, isOver, changed}
 use Rattle.runs.specs.Run.{tallied, endingAs, inRun, when, opened, chainedBy, doneBy, isDue, arrived, spending, followedBy, triedBy, dueBy, stepBy}
 use Rattle.runs.specs.Run.{recordsBy, closed, acting, mending, deedAt, chainRun}
 use Rattle.runs.specs.Over.{reason-over, finished-not-over}
@@ -178,7 +178,7 @@ module _ (r : Record) (v : Stage) where
   abbrev handed : ℕ → Ending → Run
   handed l e = spending l (arrived r (stageAt 0 e) .run)
 
-  abbrev dueAt : (ℕ → Act) → ℕ → ℕ → Ending → Stage
+  abbrev dueAt : (ℕ → Effect) → ℕ → ℕ → Ending → Stage
   dueAt f d l e = triedBy f d l r (arrived r (stageAt l e))
 
   module _ (mend : ℕ → Repairing) (f f′ : ℕ → Run → Run) where
@@ -228,20 +228,20 @@ module _ (r : Record) (v : Stage) where
     due-short (suc d) (suc d′) (suc l) s a e le F h q lt = tried-short d d′ l s a e (F (omega arith)) h q lt
 
 -- a due record at allowance 0 is Short, whatever the lookups do
-pub due-out : (f : ℕ → Act) (d : ℕ) (r : Record) (v : Stage) → leftOf v ≡ 0 → Out leftOf endOf (dueBy f d r v)
+pub due-out : (f : ℕ → Effect) (d : ℕ) (r : Record) (v : Stage) → leftOf v ≡ 0 → Out leftOf endOf (dueBy f d r v)
 unfolding triedBy
 due-out f d r v o = subst (λ (l : ℕ). Out leftOf endOf (triedBy f d l r (arrived r v))) (sym o) (refl, o)
 
 -- ---- the records of a level
 
-pub step-stays : (f : ℕ → Act) (d : ℕ) (r : Record) → Stays leftOf endOf (stepBy f d r)
+pub step-stays : (f : ℕ → Effect) (d : ℕ) (r : Record) → Stays leftOf endOf (stepBy f d r)
 step-stays f d r v o = by (isDue r v)
   where
     by : (c : Bool) → Out leftOf endOf (when c (dueBy f d r) v)
     by true = due-out f d r v (o .1)
     by false = o
 
-pub records-stays : (f : ℕ → Act) (d : ℕ) (rs : List Record) → Stays leftOf endOf (recordsBy f d rs)
+pub records-stays : (f : ℕ → Effect) (d : ℕ) (rs : List Record) → Stays leftOf endOf (recordsBy f d rs)
 unfolding recordsBy
 records-stays f d [] v o = o
 records-stays f d (r ∷ rs) v o = records-stays f d rs (stepBy f d r v) (step-stays f d r v o)

@@ -10,7 +10,7 @@ use Rattle.text.specs.Text.{movedTo}
 use Rattle.book.specs.Book.{Record, Lookup}
 use Rattle.runs.specs.declared.Ending.{Ending}
 use Rattle.runs.specs.declared.Ending.the-variants.{Finished, Short, Deep}
-use Rattle.runs.specs.Run.{Run, Stage, Act, Reason, endingFor, Made, Into, Halts, madeIn, Match, Matched, Unmatched, Deed, Acts, Chains, Rules, isOver, changed}
+use Rattle.runs.specs.Run.{Run, Stage, Effect, Reason, endingFor, Made, Into, Halts, madeIn, Match, Matched, Unmatched, Deed, Acts, Chains, Rules, isOver, changed}
 use Rattle.runs.specs.Run.{when, opened, chainedBy, doneBy, isDue, arrived, spending, triedBy, dueBy, stepBy, recordsBy, closed}
 use Rattle.runs.specs.Run.{acting, mending, deedAt, chainRun, lookupRun}
 use Rattle.runs.specs.Spending.{Out, Stays, left, ends, leftOf, endOf, due-out, records-stays, closed-stays, chain-core}
@@ -40,7 +40,7 @@ done-adds : (chain : List Record → Stage → Stage) → ((rs : List Record) �
 done-adds chain C (Acts act) x = made-adds (act (x .text)) x
 done-adds chain C (Chains match rs) x = chained-adds (chain rs) (C rs) (match (x .text)) x
 
-module _ (f : ℕ → Act) (F : (k : ℕ) → Adds (f k .does)) where
+module _ (f : ℕ → Effect) (F : (k : ℕ) → Adds (f k .does)) where
   tried-adds : (d l : ℕ) (r : Record) (v : Stage) → v .run .tally .left ≡ l → sumOf (triedBy f d l r v .run) ≡ sumOf (v .run)
   unfolding triedBy
   tried-adds d zero r v e = refl
@@ -106,7 +106,7 @@ module _ (chain : List Record → Stage → Stage) (met : List Record → Stage 
     so = λ x. chained-told (chain rs) (met rs) (C rs) (match (x .text)) .so x;
   }
 
-module _ (f : ℕ → Act) (met : ℕ → Run → Type 0) (F : (k : ℕ) → Told left ends (f k .does) (met k)) where
+module _ (f : ℕ → Effect) (met : ℕ → Run → Type 0) (F : (k : ℕ) → Told left ends (f k .does) (met k)) where
   tried-only : (d l : ℕ) (r : Record) (v : Stage) → endOf (triedBy f d l r v) ≡ Short → (endOf v ≡ Short) ⊎ MetTry met d l r v
   unfolding triedBy
   tried-only d zero r v h = inr tt

@@ -212,7 +212,7 @@ fn act_many(done: &mut [u32], coming: &[u32], s: State, from: u32, ids: &[u16]) 
     parted(s, place)
 }
 
-// Kinds 1 and 2; any other entry does nothing here. `coming` is lent to write to, for lookups that change more than the cursor glyph.
+// Kinds 1 and 2; any other entry does nothing here. `coming` is lent as the cycle has it, to write to; these two only read it.
 pub fn act(done: &mut [u32], coming: &mut [u32], book: &[u16], e: Entry, s: State) -> State
     requires { ⌜ Fits (now done) (now coming) (s .place) × (s .place .idx < limit) × Good (length (now book)) e ⌝ }
     ensures { λ r. ⌜ Ran (now (done .exit)) (now (coming .exit)) r (actedBy (now (book .entry)) e (runOf (now (done .entry)) (now (coming .entry)) s)) ⌝ }

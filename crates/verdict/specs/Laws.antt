@@ -13,24 +13,24 @@ use Rattle.verdict.specs.declared.Verdict.{Verdict}
 use Rattle.verdict.specs.declared.Verdict.the-variants.{Match, NotMatch, Skip}
 use Rattle.verdict.specs.Verdict.{Asked, skipYes, skipOf, verdict, verdictOf, restOf, judgeAt}
 
-module _ (m : Matcher) (sign : Asked) (syllable : ℕ) (sets : List ℕ) (g : Glyph) where
-  pub verdict-yes : skipYes m sets g ≡ true → verdict m sign syllable sets g ≡ Skip
+module _ (m : Matcher) (asked : Asked) (syllable : ℕ) (sets : List ℕ) (g : Glyph) where
+  pub verdict-yes : skipYes m sets g ≡ true → verdict m asked syllable sets g ≡ Skip
   unfolding verdict skipOf
   verdict-yes e = rw e
 
-  pub verdict-rest : skipYes m sets g ≡ false → verdict m sign syllable sets g ≡ restOf m sign syllable g
+  pub verdict-rest : skipYes m sets g ≡ false → verdict m asked syllable sets g ≡ restOf m asked syllable g
   unfolding verdict skipOf restOf
   verdict-rest e = rw e
 
 -- the verdict on place p, from the glyph read there and what the code was told of it
-module _ (m : Matcher) (sign : Asked) (syllable : ℕ) (sets : List ℕ) (gs : List Glyph) (p : ℕ) where
+module _ (m : Matcher) (asked : Asked) (syllable : ℕ) (sets : List ℕ) (gs : List Glyph) (p : ℕ) where
   pub judged-yes : (g : Glyph) (b : Bool) → g ≡ getD gs p blank → b ≡ skipYes m sets g → b ≡ true
-      → judgeAt m sign syllable sets gs p ≡ Skip
-  judged-yes g b read told e = rw (← read) (verdict-yes m sign syllable sets g (sym told ∙ e))
+      → judgeAt m asked syllable sets gs p ≡ Skip
+  judged-yes g b read told e = rw (← read) (verdict-yes m asked syllable sets g (sym told ∙ e))
 
   pub judged-rest : (g : Glyph) (b : Bool) (r : Verdict) → g ≡ getD gs p blank → b ≡ skipYes m sets g → b ≡ false
-      → r ≡ restOf m sign syllable g → judgeAt m sign syllable sets gs p ≡ r
-  judged-rest g b r read told e rest = rw (← read) (verdict-rest m sign syllable sets g (sym told ∙ e) ∙ sym rest)
+      → r ≡ restOf m asked syllable g → judgeAt m asked syllable sets gs p ≡ r
+  judged-rest g b r read told e rest = rw (← read) (verdict-rest m asked syllable sets g (sym told ∙ e) ∙ sym rest)
 
 -- the verdict by may match, where skip is Maybe or No
 pub weighed-no : (s : Bool) → cond s Skip NotMatch ≡ verdictOf (cond s MaySkip.Maybe MaySkip.No) MayMatch.No

@@ -102,7 +102,7 @@ isYes MayMatch.No = false
 isYes MayMatch.Maybe = false
 
 unfoldable pub matchOf : Matcher → Asked → ℕ → Glyph → MayMatch
-matchOf m sign syllable g = cond (ruledOut m syllable g) MayMatch.No (sign g)
+matchOf m asked syllable g = cond (ruledOut m syllable g) MayMatch.No (asked g)
 
 -- ---- the verdict
 
@@ -117,14 +117,14 @@ verdictOf MaySkip.Maybe MayMatch.No = Skip
 verdictOf MaySkip.Maybe MayMatch.Maybe = Skip
 
 unfoldable pub verdict : Matcher → Asked → ℕ → List ℕ → Glyph → Verdict
-verdict m sign syllable sets g = verdictOf (skipOf m sets g) (matchOf m sign syllable g)
+verdict m asked syllable sets g = verdictOf (skipOf m sets g) (matchOf m asked syllable g)
 
 -- the judge of the places of a list of glyphs
 abbrev pub judgeAt : Matcher → Asked → ℕ → List ℕ → List Glyph → ℕ → Verdict
-judgeAt m sign syllable sets gs i = verdict m sign syllable sets (getD gs i blank)
+judgeAt m asked syllable sets gs i = verdict m asked syllable sets (getD gs i blank)
 
 -- ---- the code's side
 
 -- the verdict on a glyph that isn't skip Yes
 unfoldable pub restOf : Matcher → Asked → ℕ → Glyph → Verdict
-restOf m sign syllable g = verdictOf (cond (ignorable m g) MaySkip.Maybe MaySkip.No) (matchOf m sign syllable g)
+restOf m asked syllable g = verdictOf (cond (ignorable m g) MaySkip.Maybe MaySkip.No) (matchOf m asked syllable g)

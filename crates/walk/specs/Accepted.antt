@@ -36,35 +36,35 @@ chosen : (b : Bool) (w : Walked) → (w ≡ Refused → ⊥) → (cond b Refused
 chosen true w n = (λ e. refl, λ e. refl)
 chosen false w n = (λ e. absurd (n e), λ e. ap (λ (b : Bool). cond b Refused w) e)
 
-module _ (row : List ℕ) (m : Matcher) (sign : Asked) (syllable : ℕ) (sets : List ℕ) where
+module _ (row : List ℕ) (m : Matcher) (asked : Asked) (syllable : ℕ) (sets : List ℕ) where
   module _ (len place : ℕ) where
-    pub forward-refused : (forwardOf row len place m sign syllable sets ≡ Refused) ↔ (badWalk row len place sets ≡ true)
+    pub forward-refused : (forwardOf row len place m asked syllable sets ≡ Refused) ↔ (badWalk row len place sets ≡ true)
     unfolding forwardOf
     forward-refused =
-        let v = judgeAt m sign syllable sets (glyphsOf row) in
+        let v = judgeAt m asked syllable sets (glyphsOf row) in
         chosen (badWalk row len place sets) (walkFrom v len (place + 1)) (λ e. walk-means v len (place + 1) Refused .0 e)
 
     pub forward-accepted : badWalk row len place sets ≡ false
-        → forwardOf row len place m sign syllable sets ≡ walkFrom (judgeAt m sign syllable sets (glyphsOf row)) len (place + 1)
+        → forwardOf row len place m asked syllable sets ≡ walkFrom (judgeAt m asked syllable sets (glyphsOf row)) len (place + 1)
     unfolding forwardOf
     forward-accepted e = rw e
 
     pub forward-means : (r : Walked) → badWalk row len place sets ≡ false
-        → (forwardOf row len place m sign syllable sets ≡ r) ↔ Means (judgeAt m sign syllable sets (glyphsOf row)) len (place + 1) r
-    forward-means r e = rw (forward-accepted e) (walk-means (judgeAt m sign syllable sets (glyphsOf row)) len (place + 1) r)
+        → (forwardOf row len place m asked syllable sets ≡ r) ↔ Means (judgeAt m asked syllable sets (glyphsOf row)) len (place + 1) r
+    forward-means r e = rw (forward-accepted e) (walk-means (judgeAt m asked syllable sets (glyphsOf row)) len (place + 1) r)
 
   module _ (place : ℕ) where
-    pub backward-refused : (backwardOf row place m sign syllable sets ≡ Refused) ↔ (badWalk row (length (glyphsOf row)) place sets ≡ true)
+    pub backward-refused : (backwardOf row place m asked syllable sets ≡ Refused) ↔ (badWalk row (length (glyphsOf row)) place sets ≡ true)
     unfolding backwardOf
     backward-refused =
-        let v = judgeAt m sign syllable sets (glyphsOf row) in
+        let v = judgeAt m asked syllable sets (glyphsOf row) in
         chosen (badWalk row (length (glyphsOf row)) place sets) (walkBack v place) (λ e. back-means v place Refused .0 e)
 
     pub backward-accepted : badWalk row (length (glyphsOf row)) place sets ≡ false
-        → backwardOf row place m sign syllable sets ≡ walkBack (judgeAt m sign syllable sets (glyphsOf row)) place
+        → backwardOf row place m asked syllable sets ≡ walkBack (judgeAt m asked syllable sets (glyphsOf row)) place
     unfolding backwardOf
     backward-accepted e = rw e
 
     pub backward-means : (r : Walked) → badWalk row (length (glyphsOf row)) place sets ≡ false
-        → (backwardOf row place m sign syllable sets ≡ r) ↔ MeansBack (judgeAt m sign syllable sets (glyphsOf row)) place r
-    backward-means r e = rw (backward-accepted e) (back-means (judgeAt m sign syllable sets (glyphsOf row)) place r)
+        → (backwardOf row place m asked syllable sets ≡ r) ↔ MeansBack (judgeAt m asked syllable sets (glyphsOf row)) place r
+    backward-means r e = rw (backward-accepted e) (back-means (judgeAt m asked syllable sets (glyphsOf row)) place r)

@@ -19,13 +19,13 @@ badWalk row len place sets = ((illShaped row || ltb (length (glyphsOf row)) len)
 
 -- forward from a place, the next glyph tested is one later
 unfoldable pub forwardOf : List ℕ → ℕ → ℕ → Matcher → Asked → ℕ → List ℕ → Walked
-forwardOf row len place m sign syllable sets =
-    cond (badWalk row len place sets) Refused (walkFrom (judgeAt m sign syllable sets (glyphsOf row)) len (place + 1))
+forwardOf row len place m asked syllable sets =
+    cond (badWalk row len place sets) Refused (walkFrom (judgeAt m asked syllable sets (glyphsOf row)) len (place + 1))
 
 -- backward, every glyph of the row counts
 unfoldable pub backwardOf : List ℕ → ℕ → Matcher → Asked → ℕ → List ℕ → Walked
-backwardOf row place m sign syllable sets =
-    cond (badWalk row (length (glyphsOf row)) place sets) Refused (walkBack (judgeAt m sign syllable sets (glyphsOf row)) place)
+backwardOf row place m asked syllable sets =
+    cond (badWalk row (length (glyphsOf row)) place sets) Refused (walkBack (judgeAt m asked syllable sets (glyphsOf row)) place)
 
 -- number and values of each case; 01 gives found no number, 0 is our choice
 abbrev pub walkReply : Walked → Reply

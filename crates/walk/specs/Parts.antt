@@ -60,26 +60,26 @@ module _ (u v : ℕ → Verdict) where
   back-same zero h = refl
   back-same (suc p) h = rw (h p (omega arith)) (ap (afterBack (v p) p) (back-same p (λ k l. h k (omega arith))))
 
-module _ (m : Matcher) (sign : Asked) (syllable : ℕ) (sets : List ℕ) (gs : List Glyph) where
+module _ (m : Matcher) (asked : Asked) (syllable : ℕ) (sets : List ℕ) (gs : List Glyph) where
   -- the part from glyph `start` on
   pub walk-onward : (start len next : ℕ)
-      → raised start (walkFrom (judgeAt m sign syllable sets (drop start gs)) len next)
-      ≡ walkFrom (judgeAt m sign syllable sets gs) (start + len) (start + next)
+      → raised start (walkFrom (judgeAt m asked syllable sets (drop start gs)) len next)
+      ≡ walkFrom (judgeAt m asked syllable sets gs) (start + len) (start + next)
   walk-onward start len next =
       ap (raised start)
-      (walk-same (judgeAt m sign syllable sets (drop start gs)) (λ i. judgeAt m sign syllable sets gs (start + i)) len next
-      (λ k l g. ap (verdict m sign syllable sets) (getD-drop start gs k blank)))
-      ∙ walk-shift (judgeAt m sign syllable sets gs) start len next
+      (walk-same (judgeAt m asked syllable sets (drop start gs)) (λ i. judgeAt m asked syllable sets gs (start + i)) len next
+      (λ k l g. ap (verdict m asked syllable sets) (getD-drop start gs k blank)))
+      ∙ walk-shift (judgeAt m asked syllable sets gs) start len next
 
   -- the part of the first n glyphs
   pub walk-first : (n len next : ℕ) → len ≤ n
-      → walkFrom (judgeAt m sign syllable sets (take n gs)) len next ≡ walkFrom (judgeAt m sign syllable sets gs) len next
+      → walkFrom (judgeAt m asked syllable sets (take n gs)) len next ≡ walkFrom (judgeAt m asked syllable sets gs) len next
   walk-first n len next h =
-      walk-same (judgeAt m sign syllable sets (take n gs)) (judgeAt m sign syllable sets gs) len next
-      (λ k l g. ap (verdict m sign syllable sets) (getD-take n gs k blank (omega arith)))
+      walk-same (judgeAt m asked syllable sets (take n gs)) (judgeAt m asked syllable sets gs) len next
+      (λ k l g. ap (verdict m asked syllable sets) (getD-take n gs k blank (omega arith)))
 
   pub back-first : (n place : ℕ) → place ≤ n
-      → walkBack (judgeAt m sign syllable sets (take n gs)) place ≡ walkBack (judgeAt m sign syllable sets gs) place
+      → walkBack (judgeAt m asked syllable sets (take n gs)) place ≡ walkBack (judgeAt m asked syllable sets gs) place
   back-first n place h =
-      back-same (judgeAt m sign syllable sets (take n gs)) (judgeAt m sign syllable sets gs) place
-      (λ k l. ap (verdict m sign syllable sets) (getD-take n gs k blank (omega arith)))
+      back-same (judgeAt m asked syllable sets (take n gs)) (judgeAt m asked syllable sets gs) place
+      (λ k l. ap (verdict m asked syllable sets) (getD-take n gs k blank (omega arith)))

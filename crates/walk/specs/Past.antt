@@ -45,7 +45,7 @@ module _ (v : ℕ → Verdict) where
       past-back (place - earlier) place (omega arith) (λ k i j. h k (omega arith) j) ∙ ap (walkBack v) s
 
 -- a stretch of places that are skip Yes is passed over
-pub stretch-passed : (m : Matcher) (sign : Asked) (syllable : ℕ) (sets : List ℕ) (gs : List Glyph) (a b : ℕ) → AllYes (yesAt (m .props) sets gs) a b
-    → Passed (judgeAt m sign syllable sets gs) a b
+pub stretch-passed : (m : Matcher) (asked : Asked) (syllable : ℕ) (sets : List ℕ) (gs : List Glyph) (a b : ℕ) → AllYes (yesAt (m .props) sets gs) a b
+    → Passed (judgeAt m asked syllable sets gs) a b
 unfolding skipYes
-stretch-passed m sign syllable sets gs a b h i l g = verdict-yes m sign syllable sets (getD gs i blank) (h i l g)
+stretch-passed m asked syllable sets gs a b h i l g = verdict-yes m asked syllable sets (getD gs i blank) (h i l g)

@@ -32,18 +32,18 @@ walkLines row len place sets = record { number = 1; lets = Walkable row len plac
 
 module _ (row : List ℕ) where
   abbrev pub rowJudge : Matcher → Asked → ℕ → List ℕ → ℕ → Verdict
-  rowJudge m sign syllable sets = judgeAt m sign syllable sets (glyphsOf row)
+  rowJudge m asked syllable sets = judgeAt m asked syllable sets (glyphsOf row)
 
   -- forward from a place: the next glyph tested is one later
-  pub record ForwardPromise (len place : ℕ) (m : Matcher) (sign : Asked) (syllable : ℕ) (sets : List ℕ) (answer : Walked) : Type 0 where
+  pub record ForwardPromise (len place : ℕ) (m : Matcher) (asked : Asked) (syllable : ℕ) (sets : List ℕ) (answer : Walked) : Type 0 where
     pub refused : (n : ℕ) → (walkReply answer ≡ replies n []) ↔ RefusedBy n (walkLines row len place sets)
-    pub found-0 : (q : ℕ) → (walkReply answer ≡ replies 0 (q ∷ [])) ↔ (Walkable row len place sets × Finds (rowJudge m sign syllable sets) len (place + 1) q)
+    pub found-0 : (q : ℕ) → (walkReply answer ≡ replies 0 (q ∷ [])) ↔ (Walkable row len place sets × Finds (rowJudge m asked syllable sets) len (place + 1) q)
     pub lost-4 : (extent : ℕ) → (walkReply answer ≡ replies 4 (extent ∷ []))
-        ↔ (Walkable row len place sets × (Stops (rowJudge m sign syllable sets) len (place + 1) extent ⊎ RunsOut (rowJudge m sign syllable sets) len (place + 1) extent))
+        ↔ (Walkable row len place sets × (Stops (rowJudge m asked syllable sets) len (place + 1) extent ⊎ RunsOut (rowJudge m asked syllable sets) len (place + 1) extent))
 
   -- backward: every glyph of the row counts
-  pub record BackwardPromise (place : ℕ) (m : Matcher) (sign : Asked) (syllable : ℕ) (sets : List ℕ) (answer : Walked) : Type 0 where
+  pub record BackwardPromise (place : ℕ) (m : Matcher) (asked : Asked) (syllable : ℕ) (sets : List ℕ) (answer : Walked) : Type 0 where
     pub refused : (n : ℕ) → (walkReply answer ≡ replies n []) ↔ RefusedBy n (walkLines row (length (glyphsOf row)) place sets)
-    pub found-0 : (q : ℕ) → (walkReply answer ≡ replies 0 (q ∷ [])) ↔ (Walkable row (length (glyphsOf row)) place sets × FindsBack (rowJudge m sign syllable sets) place q)
+    pub found-0 : (q : ℕ) → (walkReply answer ≡ replies 0 (q ∷ [])) ↔ (Walkable row (length (glyphsOf row)) place sets × FindsBack (rowJudge m asked syllable sets) place q)
     pub lost-4 : (extent : ℕ) → (walkReply answer ≡ replies 4 (extent ∷ []))
-        ↔ (Walkable row (length (glyphsOf row)) place sets × (StopsBack (rowJudge m sign syllable sets) place extent ⊎ RunsOutBack (rowJudge m sign syllable sets) place extent))
+        ↔ (Walkable row (length (glyphsOf row)) place sets × (StopsBack (rowJudge m asked syllable sets) place extent ⊎ RunsOutBack (rowJudge m asked syllable sets) place extent))

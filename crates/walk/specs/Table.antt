@@ -113,29 +113,29 @@ module _ (w : Walked) (bad : Bool) {W : Type 0} (good : (bad ≡ false) ↔ W) (
         lost-reply w x (⊎-elim (λ m. inl (means (Stopped x) b .1 m)) (λ m. inr (means (RanOut x) b .1 m)) (h .1)),
   )
 
-module _ (row : List ℕ) (m : Matcher) (sign : Asked) (syllable : ℕ) (sets : List ℕ) where
-  pub forward-keeps : (len place : ℕ) → ForwardPromise row len place m sign syllable sets (forwardOf row len place m sign syllable sets)
+module _ (row : List ℕ) (m : Matcher) (asked : Asked) (syllable : ℕ) (sets : List ℕ) where
+  pub forward-keeps : (len place : ℕ) → ForwardPromise row len place m asked syllable sets (forwardOf row len place m asked syllable sets)
   forward-keeps len place =
-      let w = forwardOf row len place m sign syllable sets in
+      let w = forwardOf row len place m asked syllable sets in
       let bad = badWalk row len place sets in
       let g = walkable row len place sets in
-      let r = forward-refused row m sign syllable sets len place in
-      let M = Means (judgeAt m sign syllable sets (glyphsOf row)) len (place + 1) in
-      let means = forward-means row m sign syllable sets len place in
+      let r = forward-refused row m asked syllable sets len place in
+      let M = Means (judgeAt m asked syllable sets (glyphsOf row)) len (place + 1) in
+      let means = forward-means row m asked syllable sets len place in
       record {
         refused = refused-by w bad g r M means;
         found-0 = found-0 w bad g r M means;
         lost-4 = lost-4 w bad g r M means;
       }
 
-  pub backward-keeps : (place : ℕ) → BackwardPromise row place m sign syllable sets (backwardOf row place m sign syllable sets)
+  pub backward-keeps : (place : ℕ) → BackwardPromise row place m asked syllable sets (backwardOf row place m asked syllable sets)
   backward-keeps place =
-      let w = backwardOf row place m sign syllable sets in
+      let w = backwardOf row place m asked syllable sets in
       let bad = badWalk row (length (glyphsOf row)) place sets in
       let g = walkable row (length (glyphsOf row)) place sets in
-      let r = backward-refused row m sign syllable sets place in
-      let M = MeansBack (judgeAt m sign syllable sets (glyphsOf row)) place in
-      let means = backward-means row m sign syllable sets place in
+      let r = backward-refused row m asked syllable sets place in
+      let M = MeansBack (judgeAt m asked syllable sets (glyphsOf row)) place in
+      let means = backward-means row m asked syllable sets place in
       record {
         refused = refused-by w bad g r M means;
         found-0 = found-0 w bad g r M means;

@@ -50,17 +50,17 @@ open-still row len place len′ place′ sets e h k =
     let e₂ = neither-left (shape || past) (ltb len place) e₃ in
     rw (neither-left shape past e₂, le-ltb (length (glyphsOf row)) len′ k, le-ltb len′ place′ h, neither-right ((shape || past) || ltb len place) (oddSets sets) e) refl
 
-module _ (row : List ℕ) (m : Matcher) (sign : Asked) (syllable : ℕ) (sets : List ℕ) where
+module _ (row : List ℕ) (m : Matcher) (asked : Asked) (syllable : ℕ) (sets : List ℕ) where
   abbrev judge : ℕ → Verdict
-  judge = judgeAt m sign syllable sets (glyphsOf row)
+  judge = judgeAt m asked syllable sets (glyphsOf row)
 
-  module _ (len place q : ℕ) (e : forwardOf row len place m sign syllable sets ≡ Found q) where
+  module _ (len place q : ℕ) (e : forwardOf row len place m asked syllable sets ≡ Found q) where
     forward-open : (b : Bool) → badWalk row len place sets ≡ b → badWalk row len place sets ≡ false
-    forward-open true t = absurd (subst IsRefused (sym (forward-refused row m sign syllable sets len place .1 t) ∙ e) tt)
+    forward-open true t = absurd (subst IsRefused (sym (forward-refused row m asked syllable sets len place .1 t) ∙ e) tt)
     forward-open false t = t
 
     pub forward-finds : Finds judge len (place + 1) q
-    forward-finds = forward-means row m sign syllable sets len place (Found q) (forward-open (badWalk row len place sets) refl) .0 e
+    forward-finds = forward-means row m asked syllable sets len place (Found q) (forward-open (badWalk row len place sets) refl) .0 e
 
     pub forward-further : (place < q) × (q < len)
     forward-further = let f = forward-finds .later in (omega arith, forward-finds .inside)
@@ -79,13 +79,13 @@ module _ (row : List ℕ) (m : Matcher) (sign : Asked) (syllable : ℕ) (sets : 
         let g = good-walk row len place sets o .1 in
         open-still row len place (length (glyphsOf row)) q sets o (omega arith) (omega arith)
 
-  module _ (place q : ℕ) (e : backwardOf row place m sign syllable sets ≡ Found q) where
+  module _ (place q : ℕ) (e : backwardOf row place m asked syllable sets ≡ Found q) where
     backward-open : (b : Bool) → badWalk row (length (glyphsOf row)) place sets ≡ b → badWalk row (length (glyphsOf row)) place sets ≡ false
-    backward-open true t = absurd (subst IsRefused (sym (backward-refused row m sign syllable sets place .1 t) ∙ e) tt)
+    backward-open true t = absurd (subst IsRefused (sym (backward-refused row m asked syllable sets place .1 t) ∙ e) tt)
     backward-open false t = t
 
     pub backward-finds : FindsBack judge place q
-    backward-finds = backward-means row m sign syllable sets place (Found q) (backward-open (badWalk row (length (glyphsOf row)) place sets) refl) .0 e
+    backward-finds = backward-means row m asked syllable sets place (Found q) (backward-open (badWalk row (length (glyphsOf row)) place sets) refl) .0 e
 
     pub backward-further : q < place
     backward-further = backward-finds .earlier
@@ -99,10 +99,10 @@ module _ (row : List ℕ) (m : Matcher) (sign : Asked) (syllable : ℕ) (sets : 
 
   module _ (len : ℕ) where
     abbrev answer : ℕ → Walked
-    answer place = forwardOf row len place m sign syllable sets
+    answer place = forwardOf row len place m asked syllable sets
 
     abbrev nth : ℕ → ℕ → Walked
-    nth place n = nthOf row len place n m sign syllable sets
+    nth place n = nthOf row len place n m asked syllable sets
 
     -- of several steps, those after a place found, `rest`, decide whether they are refused, and what they find
     first-refused : (place : ℕ) (rest : ℕ → Walked) (r : Walked) → answer place ≡ r
@@ -110,7 +110,7 @@ module _ (row : List ℕ) (m : Matcher) (sign : Asked) (syllable : ℕ) (sets : 
     first-refused place rest (Found q) e h k = absurd (h q e k)
     first-refused place rest (Stopped extent) e h k = absurd (subst IsRefused (sym k) tt)
     first-refused place rest (RanOut extent) e h k = absurd (subst IsRefused (sym k) tt)
-    first-refused place rest Refused e h k = forward-refused row m sign syllable sets len place .0 e
+    first-refused place rest Refused e h k = forward-refused row m asked syllable sets len place .0 e
 
     first-found : (place q : ℕ) (rest : ℕ → Walked) (r : Walked) → answer place ≡ r → onward r rest ≡ Found q
         → (s : ℕ) × ((answer place ≡ Found s) × (rest s ≡ Found q))
@@ -121,23 +121,23 @@ module _ (row : List ℕ) (m : Matcher) (sign : Asked) (syllable : ℕ) (sets : 
 
     pub nth-refused : (place n : ℕ) → (nth place n ≡ Refused) ↔ (badWalk row len place sets ≡ true)
     unfolding nthOf
-    nth-refused place zero = forward-refused row m sign syllable sets len place
+    nth-refused place zero = forward-refused row m asked syllable sets len place
     nth-refused place (suc n) =
         let rest : ℕ → Walked = λ q. nth q n in (
           first-refused place rest (answer place) refl
               (λ q e k. true≢false (sym (nth-refused q n .0 k) ∙ forward-on len place q e)),
-          λ t. ap (λ (r : Walked). onward r rest) (forward-refused row m sign syllable sets len place .1 t),
+          λ t. ap (λ (r : Walked). onward r rest) (forward-refused row m asked syllable sets len place .1 t),
         )
 
     pub nth-found : (place n q : ℕ) → badWalk row len place sets ≡ false → (nth place n ≡ Found q) ↔ FoundAfter judge len n place q
     unfolding nthOf
-    nth-found place zero q o = forward-means row m sign syllable sets len place (Found q) o
+    nth-found place zero q o = forward-means row m asked syllable sets len place (Found q) o
     nth-found place (suc n) q o =
         let rest : ℕ → Walked = λ r. nth r n in (
           λ k.
               let f = first-found place q rest (answer place) refl k in
               (f .0, (forward-finds len place (f .0) (f .1 .0), nth-found (f .0) n q (forward-on len place (f .0) (f .1 .0)) .0 (f .1 .1))),
           λ g.
-              let e = forward-means row m sign syllable sets len place (Found (g .0)) o .1 (g .1 .0) in
+              let e = forward-means row m asked syllable sets len place (Found (g .0)) o .1 (g .1 .0) in
               ap (λ (r : Walked). onward r rest) e ∙ nth-found (g .0) n q (forward-on len place (g .0) e) .1 (g .1 .1),
         )
