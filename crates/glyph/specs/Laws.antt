@@ -4,12 +4,13 @@ use mathlib.Core.Bool.{false, not}
 use mathlib.Core.List.{List, [], _∷_, _++_}
 use mathlib.Core.Logic.{_↔_}
 use Prim.Native.Nat.{ℕ, zero, suc, _+_, _*_, _/_, _%_, _≤_, _<_}
-use native.Mathlib.Nat.{zero-add, suc-add, add-zero}
+use native.Mathlib.Nat.{zero-add, suc-add, add-zero, add-suc}
+use native.Mathlib.Numerals.{add-one}
 use native.Mathlib.Omega.{arith}
 use borrow.Author.Tests.{not-false, eqb-true, ltb-false, eq-eqb, le-ltb}
 use lib.Dec.{eqb, ltb}
 use lib.ListN.{length, getD, take, drop, length-append, length-drop, take-append-drop}
-use lib.Seq.{length-take-le, take-append-le, drop-append-le, take-at, drop-at, getD-take, getD-drop}
+use lib.Seq.{length-take-le, take-append-le, drop-append-le, take-at, drop-at, drop-cons, getD-drop}
 use Rattle.bits.specs.Laws.{neither-left, neither-right}
 use Rattle.glyph.specs.Glyph.{words, limit, glyphOf, glyphs, glyphsOf, Row, illShaped, blank}
 
@@ -82,9 +83,30 @@ getD-glyphsOf w i h =
     ∙ sym (getD-drop i (glyphsOf w) 0 blank)
     ∙ rw (drop-glyphsOf i w (omega arith), glyphsOf-cons (drop (words * i) w) k)
 
--- word k of glyph i
-pub word-of : (w : List ℕ) (i k : ℕ) → k < words → getD (take words (drop (words * i) w)) k 0 ≡ getD w (words * i + k) 0
-word-of w i k h = getD-take words (drop (words * i) w) k 0 h ∙ getD-drop (words * i) w k 0
+-- n words read one by one, as code does it: the first at word x, the next at x + 1, and so on. With n a number it computes to the code's reads.
+abbrev readFrom : List ℕ → ℕ → ℕ → ℕ → List ℕ
+readFrom w x k zero = []
+readFrom w x k (suc n) = getD w (x + k) 0 ∷ readFrom w x (suc k) n
+
+abbrev pub readWords : List ℕ → ℕ → ℕ → List ℕ
+readWords w x zero = []
+readWords w x (suc n) = getD w x 0 ∷ readFrom w x 1 n
+
+read-from : (w : List ℕ) (x k n : ℕ) → x + k + n ≤ length w → readFrom w x k n ≡ take n (drop (x + k) w)
+read-from w x k zero h = refl
+read-from w x k (suc n) h =
+    ap (λ (r : List ℕ). getD w (x + k) 0 ∷ r) (read-from w x (suc k) n (omega arith) ∙ ap (λ (m : ℕ). take n (drop m w)) (add-suc x k))
+    ∙ ap (take (suc n)) (sym (drop-cons w (x + k) 0 (omega arith)))
+
+pub read-words : (w : List ℕ) (x n : ℕ) → x + n ≤ length w → readWords w x n ≡ take n (drop x w)
+read-words w x zero h = refl
+read-words w x (suc n) h =
+    ap (λ (r : List ℕ). getD w x 0 ∷ r) (read-from w x 1 n (omega arith) ∙ ap (λ (m : ℕ). take n (drop m w)) (add-one x))
+    ∙ ap (take (suc n)) (sym (drop-cons w x 0 (omega arith)))
+
+-- glyph i, by its words as code reads them
+pub read-glyph : (w : List ℕ) (i : ℕ) → words * i + words ≤ length w → glyphOf (readWords w (words * i) words) ≡ getD (glyphsOf w) i blank
+read-glyph w i h = ap glyphOf (read-words w (words * i) words h) ∙ sym (getD-glyphsOf w i h)
 
 -- ---- a row is well shaped exactly when it is whole glyphs, at most the limit
 

@@ -5,10 +5,10 @@ use mathlib.Core.List.{List, [], _∷_, _++_}
 use Prim.Native.Nat.{ℕ, zero, suc, _+_, _*_, _/_, _%_, _≤_, _<_}
 use native.Mathlib.Omega.{arith}
 use lib.ListN.{length, getD, take, drop, length-drop, take-append-drop}
-use lib.Seq.{drop-cons, drop-length, getD-take, getD-drop, length-take-le}
+use lib.Seq.{take-all, getD-take, getD-drop, length-take-le}
 use Rattle.glyph.specs.declared.Glyph.{Glyph}
 use Rattle.glyph.specs.Glyph.{words, glyphOf, wordsOf, Fields, glyphsOf, Row}
-use Rattle.glyph.specs.Laws.{glyphsOf-nil, glyphsOf-cons}
+use Rattle.glyph.specs.Laws.{glyphsOf-nil, glyphsOf-cons, read-words}
 
 -- the words of a list of glyphs
 unfoldable pub rowOf : List Glyph → List ℕ
@@ -28,23 +28,11 @@ low x = omega arith
 bytes : (x : ℕ) → x < 4294967296 → x / 16777216 % 256 * 16777216 + x / 65536 % 256 * 65536 + x / 256 % 256 * 256 + x % 256 ≡ x
 bytes x h = omega (arith, halves x h, low x)
 
--- n words from word k on, one by one
-abbrev spelled : ℕ → ℕ → List ℕ → List ℕ
-spelled zero k w = []
-spelled (suc n) k w = getD w k 0 ∷ spelled n (suc k) w
-
-spelled-is : (n k : ℕ) (w : List ℕ) → k + n ≡ length w → spelled n k w ≡ drop k w
-spelled-is zero k w e =
-    let f : k ≡ length w = omega arith in
-    rw f (sym (drop-length w))
-spelled-is (suc n) k w e =
-    ap (λ (r : List ℕ). getD w k 0 ∷ r) (spelled-is n (suc k) w (omega arith)) ∙ sym (drop-cons w k 0 (omega arith))
-
 pub words-back : (w : List ℕ) → length w ≡ words → ((k : ℕ) → k < words → getD w k 0 < 4294967296) → wordsOf (glyphOf w) ≡ w
 unfolding wordsOf
 words-back w e h =
-    (λ j. getD w 0 0 ∷ getD w 1 0 ∷ halves (getD w 2 0) (h 2 (omega arith)) j ∷ bytes (getD w 3 0) (h 3 (omega arith)) j ∷ [])
-    ∙ spelled-is words 0 w (omega arith)
+    rw (halves (getD w 2 0) (h 2 (omega arith)), bytes (getD w 3 0) (h 3 (omega arith)))
+    (read-words w 0 words (omega arith) ∙ take-all words w (omega arith))
 
 pub length-wordsOf : (g : Glyph) → length (wordsOf g) ≡ words
 unfolding wordsOf

@@ -1,8 +1,5 @@
-use Prim.Native.Nat.{_*_}
-use native.Mathlib.Nat.{add-zero}
 use native.Mathlib.Omega.{arith}
-use Rattle.glyph.specs.Glyph.{words}
-use Rattle.glyph.specs.Laws.{length-glyphsOf, getD-glyphsOf, word-of}
+use Rattle.glyph.specs.Laws.{length-glyphsOf, read-glyph}
 use borrow.Author.Needs.{needs}
 use Rattle.glyph.proofs.read.Statement.{statement}
 use Rattle.glyph.proofs.read.Tie as tie
@@ -68,14 +65,7 @@ returns : tie.Need-returns
 returns c =
     let a = c .before .before .before .before .args in
     let w = a .row .now in
-    rw (
-      getD-glyphsOf w (a .i) (omega (arith, length-glyphsOf w)),
-      word-of w (a .i) 0 (omega arith),
-      word-of w (a .i) 1 (omega arith),
-      word-of w (a .i) 2 (omega arith),
-      word-of w (a .i) 3 (omega arith),
-      add-zero (words * a .i),
-    )
+    read-glyph w (a .i) (omega (arith, length-glyphsOf w))
 
 pub read-spec : {M : Type 1} → statement M
 read-spec =
