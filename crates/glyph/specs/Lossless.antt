@@ -49,17 +49,7 @@ glyph-back g f =
     let comp : glyphOf (wordsOf g) .comp ≡ g .comp = omega arith in
     let count : glyphOf (wordsOf g) .count ≡ g .count = omega arith in
     let ligated : glyphOf (wordsOf g) .ligated ≡ g .ligated = omega arith in
-    λ j. record {
-      id = g .id;
-      mask = g .mask;
-      flags = flags j;
-      syllable = syllable j;
-      props = props j;
-      lig = lig j;
-      comp = comp j;
-      count = count j;
-      ligated = ligated j;
-    }
+    rw (flags, syllable, props, lig, comp, count, ligated)
 
 pub row-back : (n : ℕ) (w : List ℕ) → Row n w → Small w → rowOf (glyphsOf w) ≡ w
 unfolding rowOf
