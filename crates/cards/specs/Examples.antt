@@ -5,6 +5,7 @@ use Prim.Native.Nat.{ℕ}
 use lib.ListN.{length}
 use Rattle.glyph.specs.declared.Glyph.{Glyph}
 use Rattle.glyph.specs.Reply.{Reply}
+use Rattle.glyph.specs.Signs.{glyph}
 use Rattle.verdict.specs.declared.Table.{Table}
 use Rattle.verdict.specs.declared.Table.the-variants.{Gsub, Gpos}
 use Rattle.verdict.specs.Verdict.{equalTo}
@@ -13,7 +14,6 @@ use Rattle.matching.specs.Take.{ahead, behind}
 use Rattle.matching.specs.Matchers.{inputOn, aheadOn, backOn}
 use Rattle.matching.specs.Answers.{inputTold, contextTold, inputReply, contextReply}
 use Rattle.cards.specs.Card.{Card}
-use Rattle.cards.specs.Signs.{glyph}
 
 abbrev lookup : Table → ℕ → Lookup
 lookup table props = record { settings = record { table = table; zwnj = false; zwj = false; syllables = false }; mask = 1; props = props }

@@ -1,25 +1,11 @@
--- The glyphs of the cards, field by field, and their words as the glyph crate lays them out (01, "A glyph in four words"). A card lists no words; that
--- they are the ones that 01 gives is said once, by `sign-words`.
+-- The words of the cards' glyphs, as the glyph crate lays them out. A card lists no words; that they are the ones that 01 gives is said once, by
+-- `sign-words` (01, "A glyph in four words").
 use mathlib.Core.Path.{_≡_, ap}
 use mathlib.Core.List.{List, [], _∷_}
 use Prim.Native.Nat.{ℕ, _+_, _*_}
 use native.Mathlib.Omega.{arith}
-use Rattle.glyph.specs.declared.Glyph.{Glyph}
 use Rattle.glyph.specs.Glyph.{wordsOf}
-
--- its id, flags and props, its ligature id and component, and its count, also in ligation; mask 1, syllable 0
-abbrev pub glyph : ℕ → ℕ → ℕ → ℕ → ℕ → ℕ → Glyph
-glyph id flags props lig comp count = record {
-  id = id;
-  mask = 1;
-  flags = flags;
-  syllable = 0;
-  props = props;
-  lig = lig;
-  comp = comp;
-  count = count;
-  ligated = count;
-}
+use Rattle.glyph.specs.Signs.{glyph}
 
 -- the words of one in no ligature
 abbrev pub sign : ℕ → ℕ → ℕ → List ℕ

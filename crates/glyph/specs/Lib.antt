@@ -5,6 +5,7 @@ pub mod Order
 pub mod Reply
 pub mod Sets
 pub mod SetLaws
+pub mod Signs
 pub mod Tests
 pub mod Write
 pub mod WriteLaws

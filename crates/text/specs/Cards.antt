@@ -3,12 +3,12 @@ use mathlib.Core.Path.{_≡_, refl}
 use mathlib.Core.List.{List, [], _∷_, map}
 use Prim.Native.Nat.{ℕ}
 use Rattle.glyph.specs.declared.Glyph.{Glyph}
-use Rattle.glyph.specs.Glyph.{glyphOf}
+use Rattle.glyph.specs.Signs.{glyph}
 use Rattle.glyph.specs.Write.{withId}
 use Rattle.text.specs.Text.{Text, movedTo, replaced}
 
 abbrev sign : ℕ → Glyph
-sign id = glyphOf (id ∷ 1 ∷ 0 ∷ 257 ∷ [])
+sign id = glyph id 0 0 0 0 1
 
 abbrev given : Text
 given = record { glyphs = sign 1 ∷ sign 2 ∷ sign 3 ∷ []; cursor = 0 }
