@@ -6,10 +6,7 @@
 // An operation of 100 and more is the same question where ours and the original's answers differ (docs/DIFFERENCES.md), with ours.
 use matching::InputAnswer;
 use matching::InputMatch;
-use nested::Refusal;
 use nested::RunAnswer;
-use nested::RunEnding;
-use runs::Ending;
 use runs::Given;
 use stored::part;
 use stored::word;
@@ -261,7 +258,7 @@ fn store(row: &mut [u32], at: usize, v: u32) {
 fn told(words: &[u32], a: RunAnswer, done: &[u32], coming: &[u32], k: usize) -> Replayed {
     let ending = a.ending;
     let positions = a.positions;
-    let number = number_of(ending);
+    let number = numbers::nestings::number_of(ending) as u32;
     let count = size(words, after(k, 4));
     let before = list(words, after(after(k, 5), count));
     let ahead = list(words, before.to);
@@ -297,32 +294,6 @@ fn holds(row: &[u32], from: usize, words: &[u32]) -> bool {
 
 fn cell(words: &[u32], from: usize, k: usize) -> u32 {
     if k < from { 0 } else { word(words, k - from) }
-}
-
-fn number_of(e: RunEnding) -> u32 {
-    match e {
-        RunEnding::Ended(ending) => ended(ending),
-        RunEnding::Refused(why) => refused(why),
-    }
-}
-
-fn ended(e: Ending) -> u32 {
-    match e {
-        Ending::Finished => 0,
-        Ending::Short => 8,
-        Ending::Deep => 9,
-        Ending::Full => 10,
-    }
-}
-
-fn refused(why: Refusal) -> u32 {
-    match why {
-        Refusal::Shape => 1,
-        Refusal::Cursor => 2,
-        Refusal::Limits => 12,
-        Refusal::Book => 11,
-        Refusal::Match => 7,
-    }
 }
 
 // The positions are the stored ones, and every slot past them is 0.
