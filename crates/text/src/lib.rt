@@ -69,10 +69,9 @@ pub fn replace_one(done: &mut [u32], coming: &[u32], s: Place, id: u32) -> Place
     let d = s.d;
     let idx = s.idx;
     write(done, d, coming, idx, id);
-    Place {
-        d: d + 1,
-        idx: idx + 1,
-    }
+    let past = d + 1;
+    let next = idx + 1;
+    Place { d: past, idx: next }
 }
 
 // The glyph at the cursor becomes one for each id, and the cursor goes past them. No id deletes it.
@@ -91,10 +90,9 @@ pub fn replace_many(done: &mut [u32], coming: &[u32], s: Place, ids: &[u16]) -> 
         write(done, d + k, coming, idx, id);
         k += 1;
     }
-    Place {
-        d: d + n,
-        idx: idx + 1,
-    }
+    let past = d + n;
+    let next = idx + 1;
+    Place { d: past, idx: next }
 }
 
 // Glyph j of the row `to` becomes what is written in place of glyph i of `from`.

@@ -60,11 +60,11 @@ loop-again c = let a = c .before .before .before .before .before .before .before
       ∙ rw (l .inv .4) (copies-more written (glyphsOf (a .done .now)) (a .s .d) (l .k) (a .ids .now) (getD (glyphsOf (a .coming .now)) (a .s .idx) blank) (omega arith) (omega arith)),
 )
 
-add-t17 : tie.Need-add-t17 Inv-loop μ-loop
-add-t17 c = let q = c .before .before .before .before .before in let z = sizes (q .args .done .now) (q .args .coming .now) (q .args .s) (q .pre .0) in omega arith
+add-past : tie.Need-add-past Inv-loop μ-loop
+add-past c = let q = c .before .before .before .before .before in let z = sizes (q .args .done .now) (q .args .coming .now) (q .args .s) (q .pre .0) in omega arith
 
-add-t18 : tie.Need-add-t18 Inv-loop μ-loop
-add-t18 c = let q = c .before .before .before .before .before in let z = sizes (q .args .done .now) (q .args .coming .now) (q .args .s) (q .pre .0) in omega arith
+add-next : tie.Need-add-next Inv-loop μ-loop
+add-next c = let q = c .before .before .before .before .before in let z = sizes (q .args .done .now) (q .args .coming .now) (q .args .s) (q .pre .0) in omega arith
 
 same-length : tie.Need-same-length Inv-loop μ-loop
 same-length c = c .before .loop .inv .1
@@ -89,7 +89,7 @@ replace-many-spec =
     add-k
     loop-less
     loop-again
-    add-t17
-    add-t18
+    add-past
+    add-next
     same-length
     returns)

@@ -13,11 +13,11 @@ use Rattle.text.proofs.replace_one.Tie as tie
 write-requires : tie.Need-write-requires
 write-requires c κs = let q = c .before .before .before in let z = sizes (q .args .done .now) (q .args .coming .now) (q .args .s) (q .pre .0) in omega arith
 
-add-t10 : tie.Need-add-t10
-add-t10 c = search needs
+add-past : tie.Need-add-past
+add-past c = search needs
 
-add-t11 : tie.Need-add-t11
-add-t11 c = search needs
+add-next : tie.Need-add-next
+add-next c = search needs
 
 same-length : tie.Need-same-length
 same-length c = search needs
@@ -29,4 +29,4 @@ returns c = let q = c .before .before .before .before .before .before in let a =
     (y .ensures ∙ copied-one written (glyphsOf (a .done .now)) (a .s .d) (a .id) (getD (glyphsOf (a .coming .now)) (a .s .idx) blank) (omega arith))
 
 pub replace-one-spec : {M : Type 1} → statement M
-replace-one-spec = tie.close (tie.spec write-requires add-t10 add-t11 same-length returns)
+replace-one-spec = tie.close (tie.spec write-requires add-past add-next same-length returns)
