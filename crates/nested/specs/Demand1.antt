@@ -1,16 +1,16 @@
 -- Demand 1 of runs, in 01's numbers (01, "When the desk says no"): a call is refused by 1, 2, 12, 11 or 7 exactly when that line refuses and no line before it
 -- does, and then no word is changed; else it ends with 0, or with 8, 9 or 10, each exactly when its line says. Said of any answer and rows that meet the contract of `nested::run`.
 use mathlib.Core.Path.{_≡_, refl}
-use mathlib.Core.List.{[]}
+use mathlib.Core.List.{List, []}
 use mathlib.Core.Logic.{_↔_, Iff·trans, _⊎_, inl, inr, ⊎-elim}
 use Prim.Native.Nat.{ℕ}
 use Rattle.glyph.specs.Order.{RefusedBy}
 use Rattle.text.specs.Text.{textOf, written}
 use Rattle.matching.specs.Answers.{endOf}
-use Rattle.book.specs.Book.{recordsOf, lookupsOf}
+use Rattle.book.specs.Book.{Record, Lookup, recordsOf, lookupsOf}
 use Rattle.runs.specs.declared.Ending.{Ending}
 use Rattle.runs.specs.declared.Ending.the-variants.{Finished, Short, Deep, Full}
-use Rattle.runs.specs.Run.{Stage, opened, begun, movedLevel}
+use Rattle.runs.specs.Run.{Stage, Rules, opened, begun, movedLevel}
 use Rattle.runs.specs.Repair.{repaired}
 use Rattle.runs.specs.Chain.{chainBy}
 use Rattle.runs.specs.Deeds.{ruled}
@@ -31,15 +31,19 @@ openedBy h allowance =
     let first = movedLevel (h .place .idx) (h .place .d) (placesOf (h .match)) (endOf (h .match .answer)) in
     opened (first .positions) (first .end) (begun allowance (textOf (h .done) (h .coming) (h .place)))
 
+-- what a run can meet, met by this one
+abbrev pub metBy : (Rules → List Lookup → ℕ → List Record → Stage → Type 0) → Handed → ℕ → ℕ → Type 0
+metBy met h allowance depth = met (ruled (h .given) (h .sets)) (lookupsOf (h .book)) depth (recordsOf (h .records)) (openedBy h allowance)
+
 -- a due record met allowance 0; met depth 0 with allowance left; a kind 2 result would have passed the limit
 abbrev pub MetAllowance0 : Handed → ℕ → ℕ → Type 0
-MetAllowance0 h allowance depth = Met (ruled (h .given) (h .sets)) (lookupsOf (h .book)) depth (recordsOf (h .records)) (openedBy h allowance)
+MetAllowance0 = metBy Met
 
 abbrev pub MetDepth0 : Handed → ℕ → ℕ → Type 0
-MetDepth0 h allowance depth = MetDepth (ruled (h .given) (h .sets)) (lookupsOf (h .book)) depth (recordsOf (h .records)) (openedBy h allowance)
+MetDepth0 = metBy MetDepth
 
 abbrev pub MetFull : Handed → ℕ → ℕ → Type 0
-MetFull h allowance depth = MetLimit (ruled (h .given) (h .sets)) (lookupsOf (h .book)) depth (recordsOf (h .records)) (openedBy h allowance)
+MetFull = metBy MetLimit
 
 pub record Demand1 (h : Handed) (allowance depth : ℕ) (l : Left) : Type 0 where
   -- by 1, 2, 12, 11 or 7: the number of the first line that refuses

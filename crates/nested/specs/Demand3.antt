@@ -20,7 +20,7 @@ use Rattle.matching.specs.Answers.{slotted, endOf}
 use Rattle.book.specs.Book.{mostRecords, recordsOf, lookupsOf}
 use Rattle.book.specs.Encode.{Narrow}
 use Rattle.runs.specs.declared.Ending.{Ending}
-use Rattle.runs.specs.declared.Ending.the-variants.{Finished, Short, Deep, Full}
+use Rattle.runs.specs.declared.Ending.the-variants.{Finished, Short}
 use Rattle.runs.specs.declared.Given.{Given}
 use Rattle.runs.specs.Repair.{Level}
 use Rattle.runs.specs.Run.{Stage, runOn, movedLevel}
@@ -32,7 +32,7 @@ use Rattle.nested.specs.declared.RunEnding.{RunEnding}
 use Rattle.nested.specs.declared.RunAnswer.{RunAnswer}
 use Rattle.nested.specs.declared.Checked.{Checked}
 use Rattle.nested.specs.Calls.{SaidBy, Whole, endingNumber, refusalNumber, runReply, Handed, checkedAll, runSays}
-use Rattle.nested.specs.Replies.{refused-reply, ended-number, told-refused}
+use Rattle.nested.specs.Replies.{refused-reply, ended-number, endingBy, ending-back, told-refused}
 use Rattle.nested.specs.Decided.{run-decided}
 use Rattle.nested.specs.CallLaws.{said-whole as said-by}
 use Rattle.nested.specs.Lines.{Limited, Beyond, Legible, placesOf, Usable}
@@ -67,10 +67,7 @@ refusal-not-0 Book e = omega arith
 refusal-not-0 Match e = omega arith
 
 finished-by : (e : Ending) → endingNumber e ≡ 0 → e ≡ Finished
-finished-by Finished z = refl
-finished-by Short z = absurd (omega arith)
-finished-by Deep z = absurd (omega arith)
-finished-by Full z = absurd (omega arith)
+finished-by e z = sym (ending-back e) ∙ ap endingBy z
 
 -- accepted, ended Finished, and what it left
 record Ended0 (k : Checked) (v : Stage) (done coming : List ℕ) (r : RunAnswer) : Type 0 where

@@ -1,12 +1,13 @@
 -- A reply tells the case that it is of: a refusal's number no ending has, and no two endings have one number.
 use mathlib.Core.Path.{_≡_, refl, sym, ap, _∙_}
-use mathlib.Core.Bool.{Bool, true, false, cond, _&&_, _||_, true≢false}
+use mathlib.Core.Bool.{Bool, true, false, cond, true≢false}
 use mathlib.Core.List.{List, [], _∷_}
 use mathlib.Core.Logic.{_↔_}
 use mathlib.Core.Option.{some, Option·some-inj, Option·none-ne-some}
 use Prim.Native.Nat.{ℕ}
 use native.Mathlib.Omega.{arith}
-use lib.Dec.{eqb, leb}
+use borrow.Author.Tests.{eq-eqb}
+use lib.Dec.{eqb}
 use lib.ListN.{length}
 use Rattle.glyph.specs.Reply.{Reply}
 use Rattle.runs.specs.declared.Ending.{Ending}
@@ -27,23 +28,21 @@ ended-number r e q = rw q
 
 -- ---- numbers tell apart
 
-abbrev endingBy : ℕ → Ending
+abbrev pub endingBy : ℕ → Ending
 endingBy n = cond (eqb n 8) Short (cond (eqb n 9) Deep (cond (eqb n 10) Full Finished))
 
-ending-back : (e : Ending) → endingBy (endingNumber e) ≡ e
+pub ending-back : (e : Ending) → endingBy (endingNumber e) ≡ e
 ending-back Finished = refl
 ending-back Short = refl
 ending-back Deep = refl
 ending-back Full = refl
 
+-- a number that an ending has
 abbrev isEnding : ℕ → Bool
-isEnding n = eqb n 0 || (leb 8 n && leb n 10)
+isEnding n = eqb (endingNumber (endingBy n)) n
 
 ends : (e : Ending) → isEnding (endingNumber e) ≡ true
-ends Finished = refl
-ends Short = refl
-ends Deep = refl
-ends Full = refl
+ends e = eq-eqb (endingNumber (endingBy (endingNumber e))) (endingNumber e) (ap endingNumber (ending-back e))
 
 refuses : (why : Refusal) → isEnding (refusalNumber why) ≡ false
 refuses Shape = refl

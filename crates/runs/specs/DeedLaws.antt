@@ -12,7 +12,7 @@ use Rattle.text.specs.Changes.{replaced-length, replaced-before}
 use Rattle.verdict.specs.Verdict.{Asked, equalTo}
 use Rattle.book.specs.Book.{Chain, Lookup, Kind1, Kind2, Kind3, Found, Is, None, lookupAt, mostInput}
 use Rattle.runs.specs.declared.Given.{Given}
-use Rattle.runs.specs.Run.{PastLimit, Made, Into, Halts, Match, Deed}
+use Rattle.runs.specs.Run.{Reason, PastLimit, Made, Into, Halts, Match, Deed}
 use Rattle.runs.specs.Repair.{Repairing, Mends, repaired}
 use Rattle.runs.specs.Rises.{repaired-mends}
 use Rattle.runs.specs.Kept.{Sparing, FairDeed, Fitting, Fair}
@@ -24,7 +24,7 @@ use Rattle.runs.specs.Deeds.{isAt, onId, renamedBy, multipliedBy, idsOf,
 -- ---- what holds of writing holds of kinds 1 and 2: of a text that is left, and of one replaced
 
 module _ (P : Text → Made → Type 0) (left : (t : Text) → t .cursor < length (t .glyphs) → P t (Into t))
-    (full : (t : Text) → P t (Halts PastLimit)) (write : ℕ → Glyph → Glyph)
+    (halts : (t : Text) (why : Reason) → P t (Halts why)) (write : ℕ → Glyph → Glyph)
     (one : (ids : List ℕ) (t : Text) → t .cursor < length (t .glyphs) → P t (Into (replacedBy write ids t))) where
   on-id : (from : ℕ) (act : Text → Made) → ((t : Text) → t .cursor < length (t .glyphs) → P t (act t))
       → (t : Text) → t .cursor < length (t .glyphs) → P t (onId from act t)
@@ -34,15 +34,17 @@ module _ (P : Text → Made → Type 0) (left : (t : Text) → t .cursor < lengt
       by true = A t h
       by false = left t h
 
+  -- what a test halts
+  or-halts : (t : Text) (why : Reason) (b : Bool) (m : Made) → P t m → P t (cond b (Halts why) m)
+  or-halts t why true m p = halts t why
+  or-halts t why false m p = p
+
   pub renames : (from to : ℕ) (t : Text) → t .cursor < length (t .glyphs) → P t (onId from (renamedBy write to) t)
   renames from to = on-id from (renamedBy write to) (one (to ∷ []))
 
   pub multiplies : (from : ℕ) (ids : List ℕ) (t : Text) → t .cursor < length (t .glyphs) → P t (onId from (multipliedBy write ids) t)
-  multiplies from ids = on-id from (multipliedBy write ids) (λ t h. by t h (isFull (length (t .glyphs)) (length ids)))
-    where
-      by : (t : Text) → t .cursor < length (t .glyphs) → (b : Bool) → P t (cond b (Halts PastLimit) (Into (replacedBy write ids t)))
-      by t h true = full t
-      by t h false = one ids t h
+  multiplies from ids = on-id from (multipliedBy write ids)
+      (λ t h. or-halts t PastLimit (isFull (length (t .glyphs)) (length ids)) (Into (replacedBy write ids t)) (one ids t h))
 
 -- ---- fair
 
@@ -57,8 +59,8 @@ module _ (match : ℕ → Chain Asked → Text → Match) (write : ℕ → Glyph
   deed-fair : (found : Found) → ((props : ℕ) (c : Chain ℕ) → found ≡ Is (Kind3 props c) → (t : Text) → t .cursor < length (t .glyphs) → Fitting t (match props (idsOf c) t))
       → FairDeed (deedBy match write found)
   unfolding deedBy
-  deed-fair (Is (Kind1 props from to)) m = renames Sparing unchanged-spares (λ t. tt) write (replaced-spares write) from to
-  deed-fair (Is (Kind2 props from ids)) m = multiplies Sparing unchanged-spares (λ t. tt) write (replaced-spares write) from ids
+  deed-fair (Is (Kind1 props from to)) m = renames Sparing unchanged-spares (λ t why. tt) write (replaced-spares write) from to
+  deed-fair (Is (Kind2 props from ids)) m = multiplies Sparing unchanged-spares (λ t why. tt) write (replaced-spares write) from ids
   deed-fair (Is (Kind3 props c)) m = m props c refl
   deed-fair None m = unchanged-spares
 
@@ -91,8 +93,8 @@ pub record KeptByWriting (write : ℕ → Glyph → Glyph) (R : List Glyph → L
 module _ (match : ℕ → Chain Asked → Text → Match) (write : ℕ → Glyph → Glyph) (R : List Glyph → List Glyph → Type 0) (kept : KeptByWriting write R) where
   deed-lasts : (found : Found) → LastingDeed R (deedBy match write found)
   unfolding deedBy
-  deed-lasts (Is (Kind1 props from to)) = renames (RelatedMade R) (λ t h. kept .same (t .glyphs)) (λ t. tt) write (kept .one) from to
-  deed-lasts (Is (Kind2 props from ids)) = multiplies (RelatedMade R) (λ t h. kept .same (t .glyphs)) (λ t. tt) write (kept .one) from ids
+  deed-lasts (Is (Kind1 props from to)) = renames (RelatedMade R) (λ t h. kept .same (t .glyphs)) (λ t why. tt) write (kept .one) from to
+  deed-lasts (Is (Kind2 props from ids)) = multiplies (RelatedMade R) (λ t h. kept .same (t .glyphs)) (λ t why. tt) write (kept .one) from ids
   deed-lasts (Is (Kind3 props c)) = tt
   deed-lasts None = λ t h. kept .same (t .glyphs)
 

@@ -5,12 +5,13 @@ use mathlib.Core.Path.{_≡_, refl, sym, ap, _∙_}
 use mathlib.Core.Bool.{Bool, true, false, not}
 use mathlib.Core.List.{List, [], _∷_}
 use mathlib.Core.Logic.{_↔_, _⊎_, ⊎-elim, inl, inr}
+use mathlib.Core.Option.{Option, none, some, Option·some-inj, Option·none-ne-some}
 use Prim.Native.Nat.{ℕ, zero, suc}
 use native.Mathlib.Omega.{arith}
 use Rattle.text.specs.Text.{Text, movedTo}
 use Rattle.book.specs.Book.{Record, Lookup, Found, lookupAt}
 use Rattle.runs.specs.declared.Ending.{Ending}
-use Rattle.runs.specs.declared.Ending.the-variants.{Finished, Short, Deep}
+use Rattle.runs.specs.declared.Ending.the-variants.{Finished, Short, Deep, Full}
 use Rattle.runs.specs.Run.{Run, Stage, Effect, Reason, PastLimit, endingFor, Made, Into, Halts, madeIn, Deed, Acts, Chains, Rules}
 use Rattle.runs.specs.Run.{Match, Matched, Unmatched, isOver, changed, when, opened, begun, chainedBy, doneBy, isDue, arrived, spending}
 use Rattle.runs.specs.Run.{triedBy, dueBy, stepBy, recordsBy, closed, acting, mending, deedAt, chainRun, lookupRun, runOn}
@@ -55,13 +56,22 @@ MetReason = Meets ⊥
 abbrev pub Halting : Rules → Reason → (Found → Text → Type 0) → Type 0
 Halting rules why halts = (found : Found) (act : Text → Made) → rules .deed found ≡ Acts act → (t : Text) → (act t ≡ Halts why) ↔ halts found t
 
--- ---- reasons and endings, a line for each reason
+-- ---- reasons and endings: the reason that an ending tells, a line for each
+
+abbrev reasonIn : Ending → Option Reason
+reasonIn Finished = none
+reasonIn Short = none
+reasonIn Deep = none
+reasonIn Full = some PastLimit
+
+reason-back : (why : Reason) → reasonIn (endingFor why) ≡ some why
+reason-back PastLimit = refl
 
 reason-deep : (why : Reason) → endingFor why ≡ Deep → ⊥
-reason-deep PastLimit e = let z : _≡_ {A = ℕ} 0 1 = cc in omega arith
+reason-deep why e = Option·none-ne-some why (ap reasonIn (sym e) ∙ reason-back why)
 
 reason-same : (w why : Reason) → endingFor w ≡ endingFor why → w ≡ why
-reason-same PastLimit PastLimit e = refl
+reason-same w why e = Option·some-inj .0 (sym (reason-back w) ∙ ap reasonIn e ∙ reason-back why)
 
 -- ---- the ending E tells of it
 
