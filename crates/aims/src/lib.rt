@@ -247,16 +247,16 @@ pub fn take_aim(
     match e {
         Entry::Chain { props, parts } => {
             let q = ask(given, props);
-            let b = parts.backtrack;
-            let i = parts.input;
-            let l = parts.lookahead;
-            let x = b.from;
-            let y = b.to;
-            let u = i.from;
-            let v = i.to;
-            let k = l.from;
-            let n = l.to;
+            let back = parts.backtrack;
+            let input = parts.input;
+            let onward = parts.lookahead;
             let records = parts.records;
+            let a = back.from;
+            let b = back.to;
+            let i = input.from;
+            let j = input.to;
+            let k = onward.from;
+            let l = onward.to;
             match_chain(
                 done,
                 coming,
@@ -266,9 +266,9 @@ pub fn take_aim(
                 p,
                 q,
                 parts.first,
-                &book[x..y],
-                &book[u..v],
-                &book[k..n],
+                &book[a..b],
+                &book[i..j],
+                &book[k..l],
                 records,
             )
         }
