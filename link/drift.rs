@@ -1,4 +1,4 @@
-//! Checks that include/conchibaru.h and bindings/rust/src say the same as crates/desk/src and crates/numbers/src: every call with each
+//! Checks that include/conchibaru.h and bindings/rust/src say the same as crates/desk/src and crates/desk_numbers/src: every call with each
 //! argument's name and type in order, every struct with its fields, every number that has a name. Each of the three is read into one
 //! normal form.
 //!

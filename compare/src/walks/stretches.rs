@@ -1,5 +1,5 @@
 //! Long walks: sixteen glyphs and more are passed over one after the other, which
-//! our walk crosses quickly (crates/stretch) where those that it looks at are marks.
+//! our walk crosses quickly (crates/walk_stretch) where those that it looks at are marks.
 use super::{glyph, Asker, Case, Way, ALPHABET, WAYS};
 use crate::draw;
 use crate::random::Random;
@@ -101,7 +101,7 @@ impl Asker {
     }
 }
 
-/// A walk that tells a wrong answer, one of crates/stretch/must-fail, from the
+/// A walk that tells a wrong answer, one of crates/walk_stretch/must-fail, from the
 /// right one.
 pub struct Witness {
     pub case: Case,

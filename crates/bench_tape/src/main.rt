@@ -1,11 +1,11 @@
 // The bench tape's program: frames on standard input, a line each; answers on standard output. Both go in large pieces, and what
-// is answered in a piece is written before the next is read. All that matters is in the library `tape`.
+// is answered in a piece is written before the next is read. All that matters is in the library `tape_answer`.
 use libc::STDIN_FILENO;
 use libc::STDOUT_FILENO;
-use tape::Taken;
+use tape_answer::Taken;
 ghost use Prim.Native.Nat.{_+_, _≤_};
-ghost use Rattle.tape.specs.Line.{mostAnswer};
-ghost use Rattle.tape.specs.Feeding.{mostKept};
+ghost use Rattle.tape_answer.specs.Line.{mostAnswer};
+ghost use Rattle.tape_answer.specs.Feeding.{mostKept};
 
 // Answers that are gathered before they are written.
 const GATHERED: usize = 65536;
@@ -21,7 +21,7 @@ fn make_room(out: &[u8; GATHERED], written: usize) -> usize
     requires { ⌜ written ≤ 65536 ⌝ }
     ensures { λ r. ⌜ r + mostAnswer ≤ 65536 ⌝ }
 {
-    if GATHERED - written < tape::MOST_ANSWER {
+    if GATHERED - written < tape_answer::MOST_ANSWER {
         let all = &out[..];
         io::write_all(STDOUT_FILENO, &all[0..written]);
         return 0;
@@ -32,7 +32,7 @@ fn make_room(out: &[u8; GATHERED], written: usize) -> usize
 // A whole piece.
 fn take_piece(
     piece: &[u8],
-    kept: &mut [u8; tape::MOST_KEPT],
+    kept: &mut [u8; tape_answer::MOST_KEPT],
     n: usize,
     out: &mut [u8; GATHERED],
 ) -> Taken
@@ -44,7 +44,7 @@ fn take_piece(
     let mut written = 0;
     while at < piece.len() {
         let room = make_room(out, written);
-        let fed = answering::feed(piece, at, kept, held, out, room);
+        let fed = tape_feed::feed(piece, at, kept, held, out, room);
         at = fed.at;
         held = fed.kept;
         written = fed.written;
@@ -56,7 +56,7 @@ fn take_piece(
 }
 
 // One read, and the answers to the lines that it ends.
-fn one_read(kept: &mut [u8; tape::MOST_KEPT], n: usize, out: &mut [u8; GATHERED]) -> Turn
+fn one_read(kept: &mut [u8; tape_answer::MOST_KEPT], n: usize, out: &mut [u8; GATHERED]) -> Turn
     requires { ⌜ n ≤ mostKept ⌝ }
     ensures { λ r. ⌜ r .kept ≤ mostKept ⌝ }
 {
@@ -80,7 +80,7 @@ fn one_read(kept: &mut [u8; tape::MOST_KEPT], n: usize, out: &mut [u8; GATHERED]
 }
 
 // Reads to the end, and says how many bytes are kept of a last line that lacks its 0A.
-fn read_all(kept: &mut [u8; tape::MOST_KEPT], out: &mut [u8; GATHERED]) -> usize
+fn read_all(kept: &mut [u8; tape_answer::MOST_KEPT], out: &mut [u8; GATHERED]) -> usize
     ensures { λ r. ⌜ r ≤ mostKept ⌝ }
 {
     let mut n = 0;
@@ -96,19 +96,19 @@ fn read_all(kept: &mut [u8; tape::MOST_KEPT], out: &mut [u8; GATHERED]) -> usize
     n
 }
 
-fn run(kept: &mut [u8; tape::MOST_KEPT], out: &mut [u8; GATHERED]) {
+fn run(kept: &mut [u8; tape_answer::MOST_KEPT], out: &mut [u8; GATHERED]) {
     let n = read_all(kept, out);
     if n == 0 {
         return;
     }
     let line = &kept[..];
-    let end = answering::answer_line(&line[0..n], out, 0);
+    let end = tape_feed::answer_line(&line[0..n], out, 0);
     let all = &out[..];
     io::write_all(STDOUT_FILENO, &all[0..end]);
 }
 
 fn main() {
-    let mut kept = [0u8; tape::MOST_KEPT];
+    let mut kept = [0u8; tape_answer::MOST_KEPT];
     let mut out = io::large_buffer();
     run(&mut kept, &mut out);
 }

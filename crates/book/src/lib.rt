@@ -1,5 +1,5 @@
 // A book of lookups in u16 words: its types and definitions, and where a lookup's parts stand.
-// The words are walked once, by `reading::index_of`. `find_in` is then one look into the table of starts, and a few words of the lookup:
+// The words are walked once, by `book_index::index_of`. `find_in` is then one look into the table of starts, and a few words of the lookup:
 // its head, and for a chain its four numbers.
 ghost use mathlib.Core.Path.{_≡_};
 ghost use Prim.Native.Nat.{_≤_};

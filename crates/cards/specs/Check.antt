@@ -14,13 +14,13 @@ use Rattle.matching.specs.Take.{takes, reached}
 use Rattle.ligature.specs.Ligature.{mayJoin, baseBefore, baseSkips}
 use Rattle.matching.specs.Matchers.{inputBy, inputOn, aheadOn, backOn}
 use Rattle.matching.specs.Answers.{ligated}
-use Rattle.calls.specs.Calls.{badText, inputFit, inputOf}
+use Rattle.matching_calls.specs.Calls.{badText, inputFit, inputOf}
 use Rattle.glyph.specs.Write.{withId}
 use Rattle.book.specs.Book.{recordsOf, counted, bodyOf, firstOf, readLookups, readBook, lookupAt}
-use Rattle.runs.specs.Repair.{following, gained, lost, grownBy, shrunkBy, repaired}
-use Rattle.runs.specs.Run.{triedBy, recordsBy, closed, chainRun}
-use Rattle.runs.specs.Deeds.{deedBy}
-use Rattle.nested.specs.Calls.{checkedFirst, checkedAll, risesTo}
+use Rattle.run.specs.Repair.{following, gained, lost, grownBy, shrunkBy, repaired}
+use Rattle.run.specs.Run.{triedBy, recordsBy, closed, chainRun}
+use Rattle.run.specs.Deeds.{deedBy}
+use Rattle.run_calls.specs.Calls.{checkedFirst, checkedAll, risesTo}
 use Rattle.cards.specs.Card.{Card}
 use Rattle.cards.specs.Sums.{masksOf, bitsBelow}
 use Rattle.cards.specs.Cards.{cards}

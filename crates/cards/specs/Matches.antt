@@ -8,7 +8,7 @@ use Rattle.verdict.specs.declared.Table.the-variants.{Gsub}
 use Rattle.verdict.specs.Verdict.{equalTo}
 use Rattle.matching.specs.declared.Lookup.{Lookup}
 use Rattle.matching.specs.Answers.{inputReply}
-use Rattle.calls.specs.Calls.{inputOf}
+use Rattle.matching_calls.specs.Calls.{inputOf}
 use Rattle.cards.specs.Card.{Card}
 use Rattle.cards.specs.Signs.{sign, letter}
 

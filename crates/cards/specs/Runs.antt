@@ -9,9 +9,9 @@ use Rattle.glyph.specs.Glyph.{words, limit}
 use Rattle.matching.specs.declared.InputAnswer.{InputAnswer}
 use Rattle.matching.specs.declared.InputMatch.{InputMatch}
 use Rattle.matching.specs.Answers.{slotted}
-use Rattle.runs.specs.Run.{Stage}
-use Rattle.nested.specs.declared.Checked.{Checked}
-use Rattle.nested.specs.Calls.{Handed, checkedAll, runSays, endingNumber, refusalNumber}
+use Rattle.run.specs.Run.{Stage}
+use Rattle.run_calls.specs.declared.Checked.{Checked}
+use Rattle.run_calls.specs.Calls.{Handed, checkedAll, runSays, endingNumber, refusalNumber}
 use Rattle.cards.specs.Card.{Card}
 use Rattle.cards.specs.Signs.{letter}
 

@@ -4,9 +4,9 @@ use mathlib.Core.List.{List}
 use Prim.Native.Nat.{ℕ}
 use Rattle.glyph.specs.Lossless.{Small}
 use Rattle.text.specs.declared.Place.{Place}
-use Rattle.nested.specs.declared.RunAnswer.{RunAnswer}
-use Rattle.nested.specs.Calls.{Handed, checkedAll, runSays, Said}
-use Rattle.nested.specs.Decided.{run-decided}
+use Rattle.run_calls.specs.declared.RunAnswer.{RunAnswer}
+use Rattle.run_calls.specs.Calls.{Handed, checkedAll, runSays, Said}
+use Rattle.run_calls.specs.Decided.{run-decided}
 use Rattle.desk.specs.declared.matches.Matched.{Matched}
 use Rattle.desk.specs.declared.nestings.Switches.{Switches}
 use Rattle.desk.specs.declared.nestings.Ran.{Ran}

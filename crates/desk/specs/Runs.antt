@@ -1,8 +1,8 @@
 -- For C, a layout of our own: what a run is handed and answers as numbers.
 use Rattle.matching.specs.declared.InputMatch.{InputMatch}
-use Rattle.runs.specs.declared.Given.{Given}
-use Rattle.nested.specs.declared.RunAnswer.{RunAnswer}
-use Rattle.numbers.specs.Numbers.{answerFrom, numberOf}
+use Rattle.run.specs.declared.Given.{Given}
+use Rattle.run_calls.specs.declared.RunAnswer.{RunAnswer}
+use Rattle.desk_numbers.specs.Numbers.{answerFrom, numberOf}
 use Rattle.desk.specs.declared.matches.Matched.{Matched}
 use Rattle.desk.specs.declared.nestings.Switches.{Switches}
 use Rattle.desk.specs.declared.nestings.Ran.{Ran}

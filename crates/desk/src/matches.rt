@@ -7,8 +7,8 @@ use matching::InputMatch;
 ghost use mathlib.Core.Path.{_≡_};
 ghost use mathlib.Core.List.{[]};
 ghost use Rattle.verdict.specs.Verdict.{valueBy};
-ghost use Rattle.calls.specs.Calls.{inputOf, aheadOf, backOf};
-ghost use Rattle.numbers.specs.Numbers.{testOf};
+ghost use Rattle.matching_calls.specs.Calls.{inputOf, aheadOf, backOf};
+ghost use Rattle.desk_numbers.specs.Numbers.{testOf};
 ghost use Rattle.desk.specs.Matches.{lookupOf, toldOf, matchedOf, placedOf};
 
 // 0 with end, total, count and positions; 4 with the extent in `end`; or a refusal's number. Unused slots are 0.
@@ -42,7 +42,7 @@ pub extern "C" fn cb_match_input(
 ) -> Matched
     ensures { λ r. ⌜ r ≡ matchedOf (inputOf (now (done .entry)) d (now (coming .entry)) len idx (lookupOf lookup) (now (sets .entry)) (valueBy (testOf test) []) (now (values .entry))) ⌝ }
 {
-    input_told(calls::match_input(
+    input_told(matching_calls::match_input(
         done,
         d,
         coming,
@@ -50,7 +50,7 @@ pub extern "C" fn cb_match_input(
         idx,
         asked(lookup),
         sets,
-        numbers::walks::test(test),
+        desk_numbers::walks::test(test),
         values,
     ))
 }
@@ -70,7 +70,7 @@ pub extern "C" fn cb_match_lookahead(
 ) -> Placed
     ensures { λ r. ⌜ r ≡ placedOf (aheadOf (now (done .entry)) d (now (coming .entry)) len idx start (lookupOf lookup) (now (sets .entry)) (valueBy (testOf test) []) (now (values .entry))) ⌝ }
 {
-    context_told(calls::match_lookahead(
+    context_told(matching_calls::match_lookahead(
         done,
         d,
         coming,
@@ -79,7 +79,7 @@ pub extern "C" fn cb_match_lookahead(
         start,
         asked(lookup),
         sets,
-        numbers::walks::test(test),
+        desk_numbers::walks::test(test),
         values,
     ))
 }
@@ -98,7 +98,7 @@ pub extern "C" fn cb_match_backtrack<'a>(
 ) -> Placed
     ensures { λ r. ⌜ r ≡ placedOf (backOf (now (done .entry)) d (now (coming .entry)) len idx (lookupOf lookup) (now (sets .entry)) (valueBy (testOf test) []) (now (values .entry))) ⌝ }
 {
-    context_told(calls::match_backtrack(
+    context_told(matching_calls::match_backtrack(
         done,
         d,
         coming,
@@ -106,7 +106,7 @@ pub extern "C" fn cb_match_backtrack<'a>(
         idx,
         asked(lookup),
         sets,
-        numbers::walks::test(test),
+        desk_numbers::walks::test(test),
         values,
     ))
 }
@@ -130,7 +130,13 @@ fn input_told(m: InputMatch) -> Matched
     let positions = m.positions;
     match answer {
         InputAnswer::Matched { end, total } => told(0, end, total, count, positions),
-        InputAnswer::Refused(why) => told(numbers::matches::refusal(why), 0, 0, count, positions),
+        InputAnswer::Refused(why) => told(
+            desk_numbers::matches::refusal(why),
+            0,
+            0,
+            count,
+            positions,
+        ),
         InputAnswer::Lost(extent) => told(4, extent, 0, count, positions),
         InputAnswer::Ligature => told(5, 0, 0, count, positions),
     }
@@ -154,7 +160,7 @@ fn context_told(c: ContextMatch) -> Placed
     match c {
         ContextMatch::Matched(place) => Placed { number: 0, place },
         ContextMatch::Refused(why) => Placed {
-            number: numbers::matches::refusal(why),
+            number: desk_numbers::matches::refusal(why),
             place: 0,
         },
         ContextMatch::Lost(extent) => Placed {

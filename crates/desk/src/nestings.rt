@@ -1,12 +1,12 @@
 // A run of records over a text, and whether a book reads.
 use crate::matches::Matched;
 use matching::InputMatch;
-use nested::RunAnswer;
-use runs::Given;
+use run::Given;
+use run_calls::RunAnswer;
 ghost use mathlib.Core.Path.{_≡_};
 ghost use Rattle.book.specs.Book.{readBook, isRead};
-ghost use Rattle.nested.specs.declared.RunAnswer.{RunAnswer as Answer};
-ghost use Rattle.nested.specs.Calls.{Said};
+ghost use Rattle.run_calls.specs.declared.RunAnswer.{RunAnswer as Answer};
+ghost use Rattle.run_calls.specs.Calls.{Said};
 ghost use Rattle.desk.specs.Runs.{matchFrom, givenFrom, ranOf};
 
 // The three switches and the lookup mask. A run is GSUB.
@@ -33,7 +33,7 @@ pub struct Ran {
 pub extern "C" fn cb_book_reads(book: &[u16]) -> bool
     ensures { λ r. ⌜ r ≡ isRead (readBook (now (book .entry))) ⌝ }
 {
-    reading::reads(book)
+    book_index::reads(book)
 }
 
 #[no_mangle]
@@ -61,7 +61,7 @@ pub extern "C" fn cb_run(
       given = givenFrom switches;
     }) allowance depth (now (done .exit)) (now (coming .exit)) a × (r ≡ ranOf a))) ⌝ }
 {
-    told(nested::run(
+    told(run_calls::run(
         done,
         coming,
         d,
@@ -80,7 +80,7 @@ fn match_from(m: Matched) -> InputMatch
     ensures { λ r. ⌜ r ≡ matchFrom m ⌝ }
 {
     let positions = m.positions;
-    let answer = numbers::nestings::success(m.number, m.end, m.total);
+    let answer = desk_numbers::nestings::success(m.number, m.end, m.total);
     InputMatch {
         answer,
         count: m.count,
@@ -104,7 +104,7 @@ fn told(a: RunAnswer) -> Ran
 {
     let ending = a.ending;
     let positions = a.positions;
-    let number = numbers::nestings::number_of(ending);
+    let number = desk_numbers::nestings::number_of(ending);
     Ran {
         number,
         spent: a.spent,

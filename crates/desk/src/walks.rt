@@ -1,18 +1,18 @@
 // The two questions, the verdict and the walks.
-use questions::MatchAnswer;
-use questions::SkipAnswer;
-use questions::VerdictAnswer;
 use verdict::Matcher;
 use verdict::MayMatch;
 use verdict::MaySkip;
 use verdict::Settings;
 use verdict::Sign;
 use verdict::Verdict;
+use verdict_ask::MatchAnswer;
+use verdict_ask::SkipAnswer;
+use verdict_ask::VerdictAnswer;
 use walk::Walked;
 ghost use mathlib.Core.Path.{_≡_};
 ghost use mathlib.Core.List.{[]};
 ghost use Rattle.verdict.specs.Verdict.{valueOf};
-ghost use Rattle.questions.specs.Ask.{askSkip, askMatch, askVerdict, skipReply, matchReply, verdictReply};
+ghost use Rattle.verdict_ask.specs.Ask.{askSkip, askMatch, askVerdict, skipReply, matchReply, verdictReply};
 ghost use Rattle.walk.specs.Calls.{forwardOf, backwardOf};
 ghost use Rattle.desk.specs.Walks.{settingsOf, matcherFor, signOf, saidOf, stepOf};
 
@@ -60,7 +60,7 @@ pub extern "C" fn cb_may_skip(
 ) -> Said
     ensures { λ r. ⌜ r ≡ saidOf (skipReply (askSkip (now (row .entry)) place (matcherFor lookup context) (now (sets .entry)))) ⌝ }
 {
-    said_skip(questions::ask_skip(row, place, matcher(lookup, context), sets))
+    said_skip(verdict_ask::ask_skip(row, place, matcher(lookup, context), sets))
 }
 
 #[no_mangle]
@@ -73,7 +73,7 @@ pub extern "C" fn cb_may_match(
 ) -> Said
     ensures { λ r. ⌜ r ≡ saidOf (matchReply (askMatch (now (row .entry)) place (matcherFor lookup context) (valueOf (signOf sought) []) (sought .syllable))) ⌝ }
 {
-    said_match(questions::ask_match(
+    said_match(verdict_ask::ask_match(
         row,
         place,
         matcher(lookup, context),
@@ -93,7 +93,7 @@ pub extern "C" fn cb_verdict(
 ) -> Said
     ensures { λ r. ⌜ r ≡ saidOf (verdictReply (askVerdict (now (row .entry)) place (matcherFor lookup context) (valueOf (signOf sought) []) (sought .syllable) (now (sets .entry)))) ⌝ }
 {
-    said_verdict(questions::ask_verdict(
+    said_verdict(verdict_ask::ask_verdict(
         row,
         place,
         matcher(lookup, context),
@@ -156,7 +156,7 @@ fn matcher(l: Lookup, context: bool) -> Matcher
 pub fn settings(l: Lookup) -> Settings
     ensures { λ r. ⌜ r ≡ settingsOf l ⌝ }
 {
-    let t = numbers::walks::table(l.gpos);
+    let t = desk_numbers::walks::table(l.gpos);
     Settings {
         table: t,
         zwnj: l.zwnj,
@@ -168,7 +168,7 @@ pub fn settings(l: Lookup) -> Settings
 fn sign(s: Sought) -> Sign
     ensures { λ r. ⌜ r ≡ signOf s ⌝ }
 {
-    let t = numbers::walks::test(s.test);
+    let t = desk_numbers::walks::test(s.test);
     Sign {
         test: t,
         value: s.value,

@@ -80,7 +80,7 @@ fn digits(text: &mut [u8; ROOM], from: usize, answer: &[u8]) -> usize {
     let mut at = from;
     let mut i = 0;
     while i < answer.len() {
-        if answer[i] == tape::NEWLINE {
+        if answer[i] == tape_answer::NEWLINE {
             return at;
         }
         let digit = [answer[i]; 1];

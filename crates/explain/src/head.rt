@@ -1,10 +1,10 @@
 // The head of a frame: what is asked, in words.
 use crate::words;
 use crate::words::ROOM;
-use frame::Head;
+use explain_line::LineFault;
+use tape_frame::Head;
 use verdict::Settings;
 use verdict::Table;
-use wording::LineFault;
 
 fn table(text: &mut [u8; ROOM], at: usize, t: Table) -> usize {
     match t {

@@ -1,22 +1,22 @@
 // What a frame of the bench tape was answered, and why: on standard input frames, a line each; on standard output what the
-// matcher saw of each glyph, in words, and the tape's answer. What is said comes from proved functions: `explaining` and `wording` for the
-// reasons, `frame`, `calls` and `tape` for the answer.
+// matcher saw of each glyph, in words, and the tape's answer. What is said comes from proved functions: `explain_glyph` and `explain_line` for the
+// reasons, `tape_frame`, `matching_calls` and `tape_answer` for the answer.
 mod answer;
 mod head;
 mod rows;
 mod words;
 
 use crate::words::ROOM;
-use explaining::Joined;
-use explaining::Turn;
-use frame::Decoded;
-use frame::Head;
+use explain_glyph::Joined;
+use explain_glyph::Turn;
 use glyph::Glyph;
 use libc::STDIN_FILENO;
 use ligature::Base;
 use ligature::Ligbase;
 use matching::InputAnswer;
 use matching::Lookup;
+use tape_frame::Decoded;
+use tape_frame::Head;
 use verdict::Matcher;
 use verdict::Sign;
 use verdict::Table;
@@ -24,8 +24,8 @@ use verdict::Test;
 ghost use Prim.Native.Nat.{_+_, _≤_, _<_};
 ghost use lib.ListN.{length};
 ghost use Rattle.glyph.specs.Glyph.{glyphsOf};
-ghost use Rattle.frame.specs.Decoding.{Bounded};
-ghost use Rattle.tape.specs.Feeding.{mostKept};
+ghost use Rattle.tape_frame.specs.Decoding.{Bounded};
+ghost use Rattle.tape_answer.specs.Feeding.{mostKept};
 
 // What is kept from read to read: the bytes of the line so far, and the number of lines before it.
 pub struct Turns {
@@ -38,12 +38,12 @@ pub struct Turns {
 
 // The base that was searched for.
 fn tell_base(line: &mut [u8; ROOM], searched: &[u32], id: u8, m: Matcher) {
-    match explaining::find_base(searched, id) {
+    match explain_glyph::find_base(searched, id) {
         Base::At(j) => {
             let sets = [0u16; 0];
             let g = glyph::read(searched, j);
-            let s = skipping::may_skip(m, &sets, g);
-            let why = explaining::why_skip(m, &sets, g);
+            let s = verdict_skip::may_skip(m, &sets, g);
+            let why = explain_glyph::why_skip(m, &sets, g);
             rows::base(line, j, g, s, why, m.props);
         }
         Base::Nothing => rows::no_base(line),
@@ -100,7 +100,7 @@ fn tell_place(
         value: due,
     };
     let this = glyph::read(text, p);
-    let told = explaining::tell(m, &sets, sign, first, this, searched);
+    let told = explain_glyph::tell(m, &sets, sign, first, this, searched);
     let seen = told.seen;
     let turn = told.turn;
     let joined = told.joined;
@@ -207,7 +207,7 @@ fn tell_match(
     let sets = [0u16; 0];
     let d = glyph::count(before);
     let len = glyph::count(text);
-    let found = calls::match_input(
+    let found = matching_calls::match_input(
         before,
         d,
         text,
@@ -229,9 +229,9 @@ fn tell_frame(
     line: &mut [u8; ROOM],
     lines: u64,
     h: Head,
-    values: &[u32; frame::MOST_VALUES],
-    done: &[u32; frame::ROW],
-    coming: &[u32; frame::ROW],
+    values: &[u32; tape_frame::MOST_VALUES],
+    done: &[u32; tape_frame::ROW],
+    coming: &[u32; tape_frame::ROW],
 )
     requires { ⌜ Bounded h ⌝ }
 {
@@ -263,8 +263,8 @@ fn tell_frame(
 
 // The tape's own answer, without its 0A, and an empty line.
 fn tell_answer(frame: &[u8], text: &mut [u8; ROOM]) {
-    let mut out = [0u8; tape::MOST_ANSWER];
-    let end = answering::answer_line(frame, &mut out, 0);
+    let mut out = [0u8; tape_answer::MOST_ANSWER];
+    let end = tape_feed::answer_line(frame, &mut out, 0);
     let all = &out[..];
     answer::on_tape(text, &all[0..end]);
     words::end(text, 0);
@@ -272,11 +272,11 @@ fn tell_answer(frame: &[u8], text: &mut [u8; ROOM]) {
 
 fn tell_line(frame: &[u8], lines: u64) {
     let mut text = [0u8; ROOM];
-    let mut values = [0u32; frame::MOST_VALUES];
-    let mut done = [0u32; frame::ROW];
-    let mut coming = [0u32; frame::ROW];
-    match decoding::decode(frame, &mut values, &mut done, &mut coming) {
-        Decoded::NoFrame => head::no_frame(&mut text, lines, wording::why_none(frame)),
+    let mut values = [0u32; tape_frame::MOST_VALUES];
+    let mut done = [0u32; tape_frame::ROW];
+    let mut coming = [0u32; tape_frame::ROW];
+    match tape_decode::decode(frame, &mut values, &mut done, &mut coming) {
+        Decoded::NoFrame => head::no_frame(&mut text, lines, explain_line::why_none(frame)),
         Decoded::Frame(h) => tell_frame(&mut text, lines, h, &values, &done, &coming),
     }
     tell_answer(frame, &mut text);
@@ -284,11 +284,11 @@ fn tell_line(frame: &[u8], lines: u64) {
 
 // ---- the input
 
-fn keep(kept: &mut [u8; tape::MOST_KEPT], n: usize, b: u8) -> usize
+fn keep(kept: &mut [u8; tape_answer::MOST_KEPT], n: usize, b: u8) -> usize
     requires { ⌜ n ≤ mostKept ⌝ }
     ensures { λ r. ⌜ r ≤ mostKept ⌝ }
 {
-    if n < tape::MOST_KEPT {
+    if n < tape_answer::MOST_KEPT {
         kept[n] = b;
         return n + 1;
     }
@@ -296,11 +296,11 @@ fn keep(kept: &mut [u8; tape::MOST_KEPT], n: usize, b: u8) -> usize
 }
 
 // A byte ends the line, which is told, or is kept, or only makes a long line longer.
-fn take_byte(kept: &mut [u8; tape::MOST_KEPT], n: usize, lines: u64, b: u8) -> Turns
+fn take_byte(kept: &mut [u8; tape_answer::MOST_KEPT], n: usize, lines: u64, b: u8) -> Turns
     requires { ⌜ n ≤ mostKept ⌝ }
     ensures { λ r. ⌜ r .kept ≤ mostKept ⌝ }
 {
-    if b == tape::NEWLINE {
+    if b == tape_answer::NEWLINE {
         let line = &kept[..];
         let now = std::num::wrapping_add_u64(lines, 1);
         tell_line(&line[0..n], now);
@@ -317,7 +317,7 @@ fn take_byte(kept: &mut [u8; tape::MOST_KEPT], n: usize, lines: u64, b: u8) -> T
     }
 }
 
-fn take_piece(piece: &[u8], kept: &mut [u8; tape::MOST_KEPT], n: usize, lines: u64) -> Turns
+fn take_piece(piece: &[u8], kept: &mut [u8; tape_answer::MOST_KEPT], n: usize, lines: u64) -> Turns
     requires { ⌜ n ≤ mostKept ⌝ }
     ensures { λ r. ⌜ r .kept ≤ mostKept ⌝ }
 {
@@ -337,7 +337,7 @@ fn take_piece(piece: &[u8], kept: &mut [u8; tape::MOST_KEPT], n: usize, lines: u
     }
 }
 
-fn one_read(kept: &mut [u8; tape::MOST_KEPT], n: usize, lines: u64) -> Turns
+fn one_read(kept: &mut [u8; tape_answer::MOST_KEPT], n: usize, lines: u64) -> Turns
     requires { ⌜ n ≤ mostKept ⌝ }
     ensures { λ r. ⌜ r .kept ≤ mostKept ⌝ }
 {
@@ -355,7 +355,7 @@ fn one_read(kept: &mut [u8; tape::MOST_KEPT], n: usize, lines: u64) -> Turns
 }
 
 // Reads to the end, and says what is kept of a last line that lacks its 0A.
-fn read_all(kept: &mut [u8; tape::MOST_KEPT]) -> Turns
+fn read_all(kept: &mut [u8; tape_answer::MOST_KEPT]) -> Turns
     ensures { λ r. ⌜ r .kept ≤ mostKept ⌝ }
 {
     let mut n = 0;
@@ -377,7 +377,7 @@ fn read_all(kept: &mut [u8; tape::MOST_KEPT]) -> Turns
     }
 }
 
-fn run(kept: &mut [u8; tape::MOST_KEPT]) {
+fn run(kept: &mut [u8; tape_answer::MOST_KEPT]) {
     let t = read_all(kept);
     let n = t.kept;
     if n == 0 {
@@ -388,6 +388,6 @@ fn run(kept: &mut [u8; tape::MOST_KEPT]) {
 }
 
 fn main() {
-    let mut kept = [0u8; tape::MOST_KEPT];
+    let mut kept = [0u8; tape_answer::MOST_KEPT];
     run(&mut kept);
 }

@@ -1,10 +1,10 @@
 // A row for each glyph from the cursor on: what the matcher saw of it, and why.
 use crate::words;
 use crate::words::ROOM;
-use explaining::MatchReason;
-use explaining::Seen;
-use explaining::SkipReason;
-use explaining::Turn;
+use explain_glyph::MatchReason;
+use explain_glyph::Seen;
+use explain_glyph::SkipReason;
+use explain_glyph::Turn;
 use glyph::Glyph;
 use verdict::MayMatch;
 use verdict::MaySkip;

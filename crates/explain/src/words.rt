@@ -11,20 +11,20 @@ pub const ROOM: usize = COLUMNS + 1;
 const ENTRY: usize = 11;
 
 pub(crate) fn say(text: &mut [u8; ROOM], at: usize, words: &[u8]) -> usize {
-    wording::put(text, at, words)
+    explain_line::put(text, at, words)
 }
 
 pub(crate) fn number(text: &mut [u8; ROOM], at: usize, n: u32) -> usize {
     let mut digits = [0u8; 20];
     let k = io::decimal(n as u64, &mut digits);
-    wording::put(text, at, &digits[..k])
+    explain_line::put(text, at, &digits[..k])
 }
 
 // Eight hexadecimal digits.
 pub(crate) fn word(text: &mut [u8; ROOM], at: usize, n: u32) -> usize {
     let mut digits = [0u8; 16];
     let k = io::hex(n as u64, 8, &mut digits);
-    wording::put(text, at, &digits[..k])
+    explain_line::put(text, at, &digits[..k])
 }
 
 // Blanks up to a column.
@@ -37,7 +37,7 @@ pub(crate) fn pad(text: &mut [u8; ROOM], at: usize, column: usize) -> usize {
         return at;
     }
     let blanks = [b' '; ROOM];
-    wording::put(text, at, &blanks[0..n])
+    explain_line::put(text, at, &blanks[0..n])
 }
 
 // A number whose last digit stands before a column.
@@ -48,7 +48,7 @@ pub(crate) fn right(text: &mut [u8; ROOM], at: usize, column: usize, n: u32) -> 
         return at;
     }
     let from = pad(text, at, column - k);
-    wording::put(text, from, &digits[..k])
+    explain_line::put(text, from, &digits[..k])
 }
 
 fn within(at: usize) -> usize

@@ -49,7 +49,7 @@ fn is_base_skipped(row: &[u32], id: u8, m: Matcher, sets: &[u16]) -> bool
     ensures { λ r. ⌜ r ≡ baseSkips m (now (sets .entry)) id (glyphsOf (now (row .entry))) ⌝ }
 {
     match seek_base(row, id) {
-        Base::At(j) => skipping::is_skip_yes(m, sets, glyph::read(row, j)),
+        Base::At(j) => verdict_skip::is_skip_yes(m, sets, glyph::read(row, j)),
         Base::Nothing => false,
     }
 }

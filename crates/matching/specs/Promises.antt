@@ -1,5 +1,5 @@
 -- Demand 2 of the three calls, past refusals 1, 2, 3 and 6, in the paper's numbers and values (01, "Nailing an answer down"). Here is what an answer
--- is to be; that the calls' answers are so: Kept of `calls`.
+-- is to be; that the calls' answers are so: Kept of `matching_calls`.
 use Prim.Native.Nat.{ℕ, _+_}
 use mathlib.Core.Path.{_≡_}
 use mathlib.Core.List.{List, [], _∷_}

@@ -154,9 +154,9 @@ pub fn take_input(
         let q = next;
         next += 1;
         let this = glyph::read(text, q);
-        if !skipping::is_skip_yes(m, sets, this) {
+        if !verdict_skip::is_skip_yes(m, sets, this) {
             let value = values[i];
-            match judging::on_rest(m, Sign { test, value }, lists, first.syllable, this) {
+            match verdict_match::on_rest(m, Sign { test, value }, lists, first.syllable, this) {
                 Verdict::Match => {
                     base = ligature::look_for_base(base, first, this, searched, m, sets);
                     if !ligature::may_join(first, this, base) {

@@ -162,12 +162,12 @@ fn asked<'a>(
     match op {
         40 => input_is(
             words,
-            calls::match_input(done, d, coming, len, idx, lookup, sets, test, values),
+            matching_calls::match_input(done, d, coming, len, idx, lookup, sets, test, values),
             k,
         ),
         41 => context_is(
             words,
-            calls::match_lookahead(
+            matching_calls::match_lookahead(
                 done,
                 d,
                 coming,
@@ -183,7 +183,7 @@ fn asked<'a>(
         ),
         _ => context_is(
             words,
-            calls::match_backtrack(done, d, coming, len, idx, lookup, sets, test, values),
+            matching_calls::match_backtrack(done, d, coming, len, idx, lookup, sets, test, values),
             k,
         ),
     }

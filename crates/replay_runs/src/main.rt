@@ -6,8 +6,8 @@
 // An operation of 100 and more is the same question where ours and the original's answers differ (docs/DIFFERENCES.md), with ours.
 use matching::InputAnswer;
 use matching::InputMatch;
-use nested::RunAnswer;
-use runs::Given;
+use run::Given;
+use run_calls::RunAnswer;
 use stored::part;
 use stored::word;
 
@@ -200,7 +200,7 @@ fn asked(
     put(&mut done, 0, before);
     let mut coming = row_room();
     put(&mut coming, less(ROW, ahead.len()), ahead);
-    let answer = nested::run(
+    let answer = run_calls::run(
         &mut done,
         &mut coming,
         before.len() / glyph::WORDS,
@@ -258,7 +258,7 @@ fn store(row: &mut [u32], at: usize, v: u32) {
 fn told(words: &[u32], a: RunAnswer, done: &[u32], coming: &[u32], k: usize) -> Replayed {
     let ending = a.ending;
     let positions = a.positions;
-    let number = numbers::nestings::number_of(ending) as u32;
+    let number = desk_numbers::nestings::number_of(ending) as u32;
     let count = size(words, after(k, 4));
     let before = list(words, after(after(k, 5), count));
     let ahead = list(words, before.to);

@@ -4,9 +4,6 @@
 // context, test, value, syllable, place, len, how many words of mark sets and these, how many words of the row and these, and the answer.
 // An operation from 100 on is the same question where ours and the original's answers differ (docs/DIFFERENCES.md), with ours; from 200 on it is
 // one that is refused by 1, with 9 as its answer.
-use questions::MatchAnswer;
-use questions::SkipAnswer;
-use questions::VerdictAnswer;
 use stored::part;
 use stored::word;
 use verdict::Matcher;
@@ -17,6 +14,9 @@ use verdict::Sign;
 use verdict::Table;
 use verdict::Test;
 use verdict::Verdict;
+use verdict_ask::MatchAnswer;
+use verdict_ask::SkipAnswer;
+use verdict_ask::VerdictAnswer;
 use walk::Walked;
 
 struct Tally {
@@ -197,12 +197,12 @@ fn answered(q: Question, row: &[u32], sets: &[u16], words: &[u32], k: usize) -> 
     match op {
         30 => said_is(
             words,
-            skip_number(questions::ask_skip(row, q.place, m, sets)),
+            skip_number(verdict_ask::ask_skip(row, q.place, m, sets)),
             k,
         ),
         31 => said_is(
             words,
-            verdict_number(questions::ask_verdict(row, q.place, m, s, q.syllable, sets)),
+            verdict_number(verdict_ask::ask_verdict(row, q.place, m, s, q.syllable, sets)),
             k,
         ),
         32 => walk_is(
@@ -212,7 +212,7 @@ fn answered(q: Question, row: &[u32], sets: &[u16], words: &[u32], k: usize) -> 
         ),
         34 => said_is(
             words,
-            match_number(questions::ask_match(row, q.place, m, s, q.syllable)),
+            match_number(verdict_ask::ask_match(row, q.place, m, s, q.syllable)),
             k,
         ),
         _ => walk_is(

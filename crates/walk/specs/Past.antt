@@ -11,7 +11,7 @@ use Rattle.verdict.specs.declared.Verdict.{Verdict}
 use Rattle.verdict.specs.declared.Verdict.the-variants.{Skip}
 use Rattle.verdict.specs.Verdict.{Asked, skipYes, judgeAt}
 use Rattle.verdict.specs.Laws.{verdict-yes}
-use Rattle.stretch.specs.Stretch.{yesAt, AllYes}
+use Rattle.walk_stretch.specs.Stretch.{yesAt, AllYes}
 use Rattle.walk.specs.Walk.{walkFrom, walkBack}
 use Rattle.walk.specs.Steps.{walk-on-by, back-on-by}
 use Rattle.walk.specs.Means.{Passed}

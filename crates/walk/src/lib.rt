@@ -37,7 +37,7 @@ pub fn forward(
     if is_bad_walk(row, len, place, sets) {
         return Walked::Refused;
     }
-    let from = stretch::cross_ahead(row, len, place + 1, m.props, sets);
+    let from = walk_stretch::cross_ahead(row, len, place + 1, m.props, sets);
     let none = [0u16; 0];
     forward_on(row, len, from, m, sign, &none, syllable, sets)
 }
@@ -56,7 +56,7 @@ pub fn backward(
     if is_bad_walk(row, glyph::count(row), place, sets) {
         return Walked::Refused;
     }
-    let from = stretch::cross_behind(row, place, m.props, sets);
+    let from = walk_stretch::cross_behind(row, place, m.props, sets);
     let none = [0u16; 0];
     backward_from(row, from, m, sign, &none, syllable, sets)
 }
@@ -85,7 +85,7 @@ fn forward_on(
 {
     let mut at = next;
     while at < len {
-        match judging::judge(m, sign, lists, syllable, sets, glyph::read(row, at)) {
+        match verdict_match::judge(m, sign, lists, syllable, sets, glyph::read(row, at)) {
             Verdict::Match => return Walked::Found(at),
             Verdict::NotMatch => return Walked::Stopped(at + 1),
             Verdict::Skip => {}
@@ -111,7 +111,7 @@ pub fn forward_from(
 {
     let mut p = next;
     while p < len {
-        match judging::judge(m, sign, lists, syllable, sets, glyph::read(row, p)) {
+        match verdict_match::judge(m, sign, lists, syllable, sets, glyph::read(row, p)) {
             Verdict::Match => return Walked::Found(p),
             Verdict::NotMatch => return Walked::Stopped(p + 1),
             Verdict::Skip => {}
@@ -148,8 +148,8 @@ pub fn backward_from(
         return Walked::RanOut(p); // which is 0
     }
     loop {
-        if !skipping::is_skip_yes(m, sets, glyph::read(row, p)) {
-            match judging::on_rest(m, sign, lists, syllable, glyph::read(row, p)) {
+        if !verdict_skip::is_skip_yes(m, sets, glyph::read(row, p)) {
+            match verdict_match::on_rest(m, sign, lists, syllable, glyph::read(row, p)) {
                 Verdict::Match => return Walked::Found(p),
                 Verdict::NotMatch => return Walked::Stopped(back_extent(p)),
                 Verdict::Skip => {}

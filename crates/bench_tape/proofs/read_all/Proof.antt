@@ -1,6 +1,6 @@
 -- A read keeps no more of a line than there is room for; the turns are counted down. Assumes nothing.
 use Prim.Native.Nat.{_≤_}
-use Rattle.tape.specs.Feeding.{mostKept}
+use Rattle.tape_answer.specs.Feeding.{mostKept}
 use borrow.Author.Needs.{needs}
 use Rattle.bench_tape.proofs.read_all.Statement.{statement}
 use Rattle.bench_tape.proofs.read_all.Tie as tie

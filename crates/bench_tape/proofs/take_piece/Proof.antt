@@ -1,7 +1,7 @@
 -- Each feed goes on in the piece. Assumes nothing.
 use Prim.Native.Nat.{_-_, _≤_}
 use lib.ListN.{length}
-use Rattle.tape.specs.Feeding.{mostKept}
+use Rattle.tape_answer.specs.Feeding.{mostKept}
 use borrow.Author.Needs.{needs}
 use Rattle.bench_tape.proofs.take_piece.Statement.{statement}
 use Rattle.bench_tape.proofs.take_piece.Tie as tie

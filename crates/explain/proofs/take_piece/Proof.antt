@@ -1,7 +1,7 @@
 -- A byte a turn; no more is kept of a line than there is room for. Assumes nothing.
 use Prim.Native.Nat.{_-_, _≤_}
 use lib.ListN.{length}
-use Rattle.tape.specs.Feeding.{mostKept}
+use Rattle.tape_answer.specs.Feeding.{mostKept}
 use borrow.Author.Needs.{needs}
 use Rattle.explain.proofs.take_piece.Statement.{statement}
 use Rattle.explain.proofs.take_piece.Tie as tie

@@ -1,7 +1,7 @@
 -- A line that is decoded keeps the limits of a frame. Assumes nothing.
 use mathlib.Core.Path.{sym, _∙_}
-use Rattle.frame.specs.DecodingLaws.{frame-told, told-bounded}
-use Rattle.frame.specs.Frame.{frameOf}
+use Rattle.tape_frame.specs.DecodingLaws.{frame-told, told-bounded}
+use Rattle.tape_frame.specs.Frame.{frameOf}
 use borrow.Author.Needs.{needs}
 use Rattle.explain.proofs.tell_line.Statement.{statement}
 use Rattle.explain.proofs.tell_line.Tie as tie

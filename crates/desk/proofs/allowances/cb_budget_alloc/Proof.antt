@@ -4,7 +4,7 @@ use denote.Ref.{now}
 use Rattle.allowance.specs.declared.Budget.{Budget}
 use Rattle.allowance.specs.declared.Charged.{Charged}
 use Rattle.allowance.specs.Allowance.{worked, allocated}
-use Rattle.numbers.specs.Numbers.{wasTaken}
+use Rattle.desk_numbers.specs.Numbers.{wasTaken}
 use Rattle.desk.specs.Allowances.{budgetOf, leftOf}
 use borrow.Author.Needs.{needs}
 use Rattle.desk.proofs.allowances.cb_budget_alloc.Statement.{statement}

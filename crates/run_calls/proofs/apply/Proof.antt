@@ -1,0 +1,66 @@
+-- The match is taken apart as the definition does; a match that isn't refused opens a sound level. Assumes nothing.
+use mathlib.Core.Path.{_≡_, sym, _∙_}
+use borrow.Author.Tests.{not-true, not-false}
+use lib.ListN.{take}
+use Rattle.text.specs.Text.{textOf}
+use Rattle.book.specs.Book.{recordsOf, lookupsOf}
+use Rattle.run.specs.Run.{begun, chainRun, movedLevel}
+use Rattle.run.specs.Deeds.{ruled}
+use Rattle.run_cycle.specs.Cycle.{level-neat}
+use Rattle.run_calls.specs.Calls.{runSays}
+use Rattle.run_calls.specs.declared.Refusal.the-variants.{Match}
+use Rattle.run_calls.specs.CallLaws.{said-refused, said-whole, match-bad, match-good, end-is, places-show, open-asks, level-sound, first-sound, whole-first}
+use Rattle.run_calls.proofs.Cases.{other}
+use borrow.Author.Needs.{needs}
+use Rattle.run_calls.proofs.apply.Statement.{statement}
+use Rattle.run_calls.proofs.apply.Tie as tie
+use Rattle.matching.specs.Answers.{endOf}
+
+enum-known-answer : tie.Need-enum-known-answer
+enum-known-answer c = search needs
+
+refuse-requires : tie.Need-refuse-requires
+refuse-requires c κs = search needs
+
+returns : tie.Need-returns
+returns c = let a = c .before .before .before .before .before .before .before .args in said-refused _ Match _ (a .done .now) (a .coming .now) (c .refuse .result) (other (a .matched .answer) (a .place .idx) (a .matched .count) (a .matched .positions) (c .before .match .keys2)) (c .refuse .ensures)
+
+is-level-requires : tie.Need-is-level-requires
+is-level-requires c κs = search needs
+
+refuse-requires-2 : tie.Need-refuse-requires-2
+refuse-requires-2 c κs = search needs
+
+returns-2 : tie.Need-returns-2
+returns-2 c = let a = c .before .before .before .before .before .before .before .before .before .before .before .before .before .args in said-refused _ Match _ (a .done .now) (a .coming .now) (c .refuse2 .result) (match-bad (a .place .idx) (c .before .before .before .before .before .before .answer .given .0 .0) (c .before .before .before .before .before .before .answer .given .0 .1 .0) (a .matched .count) (a .matched .positions) (a .matched .answer) (c .before .before .before .before .before .before .answer .given .1) (sym (c .before .before .is-level .ensures) ∙ not-true _ (c .before .if1 .taken))) (c .refuse2 .ensures)
+
+open-requires : tie.Need-open-requires
+open-requires c κs = let s = c .before .before .before .before .before .before .before .before .before .before .before .before .before in let a = s .args in open-asks (a .done .now) (a .coming .now) (a .place) (s .pre .1) (c .before .before .before .before .before .before .answer .given .0 .0) (a .matched .count) (a .matched .positions) (is-level-requires (c .before .before .before) (c .before .before .is-level .lifetimes)) (places-show (a .place .idx) (c .before .before .before .before .before .before .answer .given .0 .0) (a .matched .count) (a .matched .positions) (sym (c .before .before .is-level .ensures) ∙ not-false _ (c .before .if1 .left)))
+
+go-requires : tie.Need-go-requires
+go-requires c κs = let s = c .before .before .before .before .before .before .before .before .before .before .before .before .before .before .before .before in let a = s .args in (s .pre .0, s .pre .1, s .pre .3, level-neat (c .before .before .open .result) (movedLevel (a .place .idx) (a .place .d) (take (a .matched .count) (a .matched .positions)) (c .before .before .before .before .before .before .before .before .before .answer .given .0 .0)) (c .before .before .open .ensures), level-sound _ (c .before .before .open .result) (movedLevel (a .place .idx) (a .place .d) (take (a .matched .count) (a .matched .positions)) (c .before .before .before .before .before .before .before .before .before .answer .given .0 .0)) (c .before .before .open .ensures) (first-sound (a .done .now) (a .coming .now) (a .place) (s .pre .1) (c .before .before .before .before .before .before .before .before .before .answer .given .0 .0) (a .matched .count) (a .matched .positions) (is-level-requires (c .before .before .before .before .before .before) (c .before .before .before .before .before .is-level .lifetimes)) (places-show (a .place .idx) (c .before .before .before .before .before .before .before .before .before .answer .given .0 .0) (a .matched .count) (a .matched .positions) (sym (c .before .before .before .before .before .is-level .ensures) ∙ not-false _ (c .before .before .before .before .if1 .left)))))
+
+same-length : tie.Need-same-length
+same-length c = search needs
+
+same-length-2 : tie.Need-same-length-2
+same-length-2 c = search needs
+
+returns-3 : tie.Need-returns-3
+returns-3 c = let a = c .before .before .before .before .before .before .before .before .before .before .before .before .before .before .before .before .before .before .before .before .before .args in let e = c .before .before .before .before .before .before .before .before .before .before .before .before .before .before .answer .given in let g = c .before .before .before .before .go in said-whole _ (runSays (record { done = a .done .now; coming = a .coming .now; place = a .place; sets = a .sets .now; book = a .book .now; records = a .records .now; match = a .matched; given = a .given }) (a .allowance) (a .depth)) (a .done .now) (a .coming .now) (g .last .0) (g .last .1 .0) (g .result) (match-good (a .place .idx) (e .0 .0) (e .0 .1 .0) (a .matched .count) (a .matched .positions) (a .matched .answer) (e .1) (sym (c .before .before .before .before .before .before .before .before .before .before .is-level .ensures) ∙ not-false _ (c .before .before .before .before .before .before .before .before .before .if1 .left))) (whole-first (chainRun (ruled (a .given) (a .sets .now)) (lookupsOf (a .book .now)) (a .depth) (recordsOf (a .records .now))) (begun (a .allowance) (textOf (a .done .now) (a .coming .now) (a .place))) (c .before .before .before .before .before .before .before .open .result) (a .place .idx) (a .place .d) (take (a .matched .count) (a .matched .positions)) (e .0 .0) (endOf (a .matched .answer)) (g .last .0) (g .last .1 .0) (g .result) (c .before .before .before .before .before .before .before .open .ensures) (end-is (a .place .idx) (e .0 .0) (e .0 .1 .0) (a .matched .count) (a .matched .positions) (a .matched .answer) (e .1)) (g .ensures))
+
+pub apply-spec : {M : Type 1} → statement M
+apply-spec =
+    tie.close
+    (tie.spec
+    enum-known-answer
+    refuse-requires
+    returns
+    is-level-requires
+    refuse-requires-2
+    returns-2
+    open-requires
+    go-requires
+    same-length
+    same-length-2
+    returns-3)

@@ -1,0 +1,46 @@
+-- The refusals in their order are the definition's. Assumes nothing.
+use Rattle.run_calls.specs.Calls.{checkedFirst}
+use borrow.Author.Needs.{needs}
+use Rattle.run_calls.proofs.check.Statement.{statement}
+use Rattle.run_calls.proofs.check.Tie as tie
+
+is-unfit-requires : tie.Need-is-unfit-requires
+is-unfit-requires c κs = search needs
+
+is-odd-requires : tie.Need-is-odd-requires
+is-odd-requires c κs = search needs
+
+is-bad-list-requires : tie.Need-is-bad-list-requires
+is-bad-list-requires c κs = search needs
+
+returns : tie.Need-returns
+unfolding checkedFirst
+returns c = rw (← c .before .before .before .is-unfit .ensures, ← c .before .before .is-odd .ensures, ← c .before .is-bad-list .ensures, c .if1 .taken)
+
+is-past-end-requires : tie.Need-is-past-end-requires
+is-past-end-requires c κs = search needs
+
+returns-2 : tie.Need-returns-2
+unfolding checkedFirst
+returns-2 c = rw (← c .before .before .before .before .before .is-unfit .ensures, ← c .before .before .before .before .is-odd .ensures, ← c .before .before .before .is-bad-list .ensures, c .before .before .if1 .left, ← c .before .is-past-end .ensures, c .if2 .taken)
+
+returns-3 : tie.Need-returns-3
+unfolding checkedFirst
+returns-3 c = rw (← c .before .before .before .before .before .before .is-unfit .ensures, ← c .before .before .before .before .before .is-odd .ensures, ← c .before .before .before .before .is-bad-list .ensures, c .before .before .before .if1 .left, ← c .before .before .is-past-end .ensures, c .before .if2 .left, c .if3 .taken)
+
+returns-4 : tie.Need-returns-4
+unfolding checkedFirst
+returns-4 c = rw (← c .before .before .before .before .before .before .is-unfit .ensures, ← c .before .before .before .before .before .is-odd .ensures, ← c .before .before .before .before .is-bad-list .ensures, c .before .before .before .if1 .left, ← c .before .before .is-past-end .ensures, c .before .if2 .left, c .if3 .left)
+
+pub check-spec : {M : Type 1} → statement M
+check-spec =
+    tie.close
+    (tie.spec
+    is-unfit-requires
+    is-odd-requires
+    is-bad-list-requires
+    returns
+    is-past-end-requires
+    returns-2
+    returns-3
+    returns-4)

@@ -1,0 +1,145 @@
+-- The run on rows of words: refused by 1, 2, 12, 11 or 7 in this order with no word changed, else what the run on the text says (01, "Records over a text", "When the desk says no").
+use mathlib.Core.Path.{_≡_}
+use mathlib.Core.Bool.{Bool, true, false, cond, not, _&&_, _||_}
+use mathlib.Core.List.{List, [], _∷_}
+use mathlib.Core.Option.{Option, none, some}
+use Prim.Native.Nat.{ℕ, _+_, _-_, _*_, _%_}
+use lib.Dec.{eqb, leb, ltb}
+use lib.ListN.{length, getD, take}
+use Rattle.glyph.specs.Glyph.{limit}
+use Rattle.glyph.specs.Sets.{oddSets}
+use Rattle.glyph.specs.Reply.{Reply}
+use Rattle.text.specs.declared.Place.{Place}
+use Rattle.text.specs.Text.{Text, textOf, Holds, Clear, unfit, pastEnd}
+use Rattle.matching.specs.declared.InputAnswer.{InputAnswer}
+use Rattle.matching.specs.declared.InputMatch.{InputMatch}
+use Rattle.matching.specs.Take.{slots}
+use Rattle.matching.specs.Answers.{slotted, endOf}
+use Rattle.book.specs.Book.{mostRecords, recordsOf, readBook, isRead, lookupsOf}
+use Rattle.run.specs.declared.Ending.{Ending}
+use Rattle.run.specs.declared.Ending.the-variants.{Finished, Short, Deep, Full}
+use Rattle.run.specs.declared.Given.{Given}
+use Rattle.run.specs.Repair.{Level}
+use Rattle.run.specs.Run.{Run, Stage, runOn, movedLevel, mostAllowance, mostDepth}
+use Rattle.run.specs.Deeds.{ruled}
+use Rattle.run_calls.specs.declared.Refusal.{Refusal}
+use Rattle.run_calls.specs.declared.Refusal.the-variants.{Shape, Cursor, Limits, Book, Match}
+use Rattle.run_calls.specs.declared.RunEnding.{RunEnding}
+use Rattle.run_calls.specs.declared.RunAnswer.{RunAnswer}
+use Rattle.run_calls.specs.declared.Checked.{Checked}
+
+-- what is handed to a run: all but the allowance and the depth
+pub record Handed : Type 0 where
+  pub done : List ℕ
+  pub coming : List ℕ
+  pub place : Place
+  pub sets : List ℕ
+  pub book : List ℕ
+  pub records : List ℕ
+  pub match : InputMatch
+  pub given : Given
+
+-- ---- refusals
+
+-- records that aren't pairs, or over 16 of them
+abbrev pub badRecords : List ℕ → Bool
+badRecords records = not (eqb (length records % 2) 0) || ltb (2 * mostRecords) (length records)
+
+-- 1: rows, place, mark sets, records. 2: the cursor. 12: allowance and depth
+unfoldable pub checkedFirst : List ℕ → List ℕ → Place → List ℕ → List ℕ → ℕ → ℕ → Checked
+checkedFirst done coming p sets records allowance depth =
+    cond (unfit done coming p || (oddSets sets || badRecords records)) (Checked.Refused Shape)
+    (cond (pastEnd p) (Checked.Refused Cursor)
+    (cond (ltb mostAllowance allowance || ltb mostDepth depth) (Checked.Refused Limits) Checked.Accepted))
+
+-- places from `low` on, each after the one before it, all below the end
+unfoldable pub risesTo : ℕ → ℕ → List ℕ → Bool
+risesTo low end [] = true
+risesTo low end (p ∷ ps) = leb low p && (ltb p end && risesTo (p + 1) end ps)
+
+-- a position, at most 64, an end in the row, the first the cursor, rising and below the end
+abbrev pub goodPlaces : ℕ → ℕ → ℕ → List ℕ → Bool
+goodPlaces idx end count places =
+    not (eqb count 0) && (leb count slots && (leb end limit && (eqb (getD places 0 0) idx && risesTo idx end (take count places))))
+
+abbrev pub checkedPlaces : ℕ → InputAnswer → ℕ → List ℕ → Checked
+checkedPlaces idx (InputAnswer.Matched end total) count places = cond (goodPlaces idx end count places) Checked.Accepted (Checked.Refused Match)
+checkedPlaces idx (InputAnswer.Refused why) count places = Checked.Refused Match
+checkedPlaces idx (InputAnswer.Lost extent) count places = Checked.Refused Match
+checkedPlaces idx InputAnswer.Ligature count places = Checked.Refused Match
+
+-- 7: the match handed in; slots past its count aren't looked at
+abbrev pub checkedMatch : ℕ → InputMatch → Checked
+checkedMatch idx m = checkedPlaces idx (m .answer) (m .count) (m .positions)
+
+abbrev pub then : Checked → Checked → Checked
+then Checked.Accepted next = next
+then (Checked.Refused why) next = Checked.Refused why
+
+-- 11: the book reads
+abbrev pub checkedBook : List ℕ → Checked
+checkedBook book = cond (isRead (readBook book)) Checked.Accepted (Checked.Refused Book)
+
+-- 1, 2, 12, 11, 7, in this order
+unfoldable pub checkedAll : Handed → ℕ → ℕ → Checked
+checkedAll h allowance depth =
+    then (checkedFirst (h .done) (h .coming) (h .place) (h .sets) (h .records) allowance depth)
+    (then (checkedBook (h .book)) (checkedMatch (h .place .idx) (h .match)))
+
+-- ---- the answer
+
+abbrev pub refusedBy : Refusal → RunAnswer
+refusedBy why = record { ending = RunEnding.Refused why; spent = 0; d = 0; idx = 0; count = 0; positions = slotted [] }
+
+-- what a run leaves: the answer; the text in the rows; and 0 in the cells that are in neither part
+pub record Whole (v : Stage) (done coming : List ℕ) (r : RunAnswer) : Type 0 where
+  pub ending : r .ending ≡ RunEnding.Ended (v .run .tally .ending)
+  pub spent : r .spent ≡ v .run .tally .spent
+  pub count : r .count ≡ length (v .level .positions)
+  pub positions : r .positions ≡ slotted (v .level .positions)
+  pub holds : Holds done coming (record { d = r .d; idx = r .idx }) (v .run .text)
+  pub clear : Clear done coming (record { d = r .d; idx = r .idx })
+
+-- the run on the text that the rows hold, with the match's places counted from the text's first glyph
+abbrev pub runSays : Handed → ℕ → ℕ → Stage
+runSays h allowance depth =
+    let p = h .place in
+    let m = h .match in
+    let first = movedLevel (p .idx) (p .d) (take (m .count) (m .positions)) (endOf (m .answer)) in
+    runOn (ruled (h .given) (h .sets)) (lookupsOf (h .book)) depth (recordsOf (h .records)) (first .positions) (first .end) allowance (textOf (h .done) (h .coming) p)
+
+-- refused: the number, and no word changed; accepted: what the run on the text says
+abbrev pub SaidBy : Checked → Stage → List ℕ → List ℕ → List ℕ → List ℕ → RunAnswer → Type 0
+SaidBy (Checked.Refused why) v done coming done′ coming′ r = (r ≡ refusedBy why) × (done′ ≡ done) × (coming′ ≡ coming)
+SaidBy Checked.Accepted v done coming done′ coming′ r = Whole v done′ coming′ r
+
+-- what a run says of what it is handed: its answer, and both rows afterwards
+abbrev pub Said : Handed → ℕ → ℕ → List ℕ → List ℕ → RunAnswer → Type 0
+Said h allowance depth done coming r = SaidBy (checkedAll h allowance depth) (runSays h allowance depth) (h .done) (h .coming) done coming r
+
+-- ---- this paper's number and values of each answer; a run that is Finished has none, 0 is our choice
+
+abbrev pub endingNumber : Ending → ℕ
+endingNumber Finished = 0
+endingNumber Short = 8
+endingNumber Deep = 9
+endingNumber Full = 10
+
+abbrev pub refusalNumber : Refusal → ℕ
+refusalNumber Shape = 1
+refusalNumber Cursor = 2
+refusalNumber Limits = 12
+refusalNumber Book = 11
+refusalNumber Match = 7
+
+abbrev pub checkedNumber : Checked → Option ℕ
+checkedNumber Checked.Accepted = none
+checkedNumber (Checked.Refused why) = some (refusalNumber why)
+
+abbrev runReplyBy : RunEnding → List ℕ → Reply
+runReplyBy (RunEnding.Ended e) values = record { number = endingNumber e; values = values }
+runReplyBy (RunEnding.Refused why) values = record { number = refusalNumber why; values = [] }
+
+-- spent, d, idx, the count and the positions; of a refusal the number alone
+abbrev pub runReply : RunAnswer → Reply
+runReply r = runReplyBy (r .ending) (r .spent ∷ r .d ∷ r .idx ∷ r .count ∷ take (r .count) (r .positions))

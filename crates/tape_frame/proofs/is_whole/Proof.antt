@@ -1,0 +1,85 @@
+-- The definition's five tests, joined as it joins them. Assumes nothing.
+use Rattle.tape_frame.specs.Frame.{isWhole}
+use borrow.Author.Needs.{needs}
+use Rattle.tape_frame.proofs.is_whole.Statement.{statement}
+use Rattle.tape_frame.proofs.is_whole.Tie as tie
+
+value-count-requires : tie.Need-value-count-requires
+value-count-requires c κs = search needs
+
+cast-v : tie.Need-cast-v
+cast-v c = search needs
+
+done-count-requires : tie.Need-done-count-requires
+done-count-requires c κs = search needs
+
+cast-d : tie.Need-cast-d
+cast-d c = search needs
+
+coming-count-requires : tie.Need-coming-count-requires
+coming-count-requires c κs = search needs
+
+cast-c : tie.Need-cast-c
+cast-c c = search needs
+
+mul-end : tie.Need-mul-end
+mul-end c = search needs
+
+add-end : tie.Need-add-end
+add-end c = search needs
+
+add-end-2 : tie.Need-add-end-2
+add-end-2 c = search needs
+
+mul-end-2 : tie.Need-mul-end-2
+mul-end-2 c = search needs
+
+mul-end-3 : tie.Need-mul-end-3
+mul-end-3 c = search needs
+
+add-end-3 : tie.Need-add-end-3
+add-end-3 c = search needs
+
+mul-end-4 : tie.Need-mul-end-4
+mul-end-4 c = search needs
+
+mul-end-5 : tie.Need-mul-end-5
+mul-end-5 c = search needs
+
+add-end-4 : tie.Need-add-end-4
+add-end-4 c = search needs
+
+byte-at-requires : tie.Need-byte-at-requires
+byte-at-requires c κs = search needs
+
+returns : tie.Need-returns
+unfolding isWhole
+returns c =
+    rw (
+      ← c .before .before .before .value-count .ensures,
+      ← c .before .before .done-count .ensures,
+      ← c .before .coming-count .ensures,
+      ← c .byte-at .ensures,
+    )
+
+pub is-whole-spec : {M : Type 1} → statement M
+is-whole-spec =
+    tie.close
+    (tie.spec
+    value-count-requires
+    cast-v
+    done-count-requires
+    cast-d
+    coming-count-requires
+    cast-c
+    mul-end
+    add-end
+    add-end-2
+    mul-end-2
+    mul-end-3
+    add-end-3
+    mul-end-4
+    mul-end-5
+    add-end-4
+    byte-at-requires
+    returns)

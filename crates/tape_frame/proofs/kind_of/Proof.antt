@@ -1,0 +1,26 @@
+-- The two tests are the definition's. Assumes nothing.
+use Rattle.tape_frame.specs.Frame.{kindOf}
+use borrow.Author.Needs.{needs}
+use Rattle.tape_frame.proofs.kind_of.Statement.{statement}
+use Rattle.tape_frame.proofs.kind_of.Tie as tie
+
+opens-requires : tie.Need-opens-requires
+opens-requires c κs = search needs
+
+returns : tie.Need-returns
+unfolding kindOf
+returns c = rw (← c .before .opens .ensures, c .if1 .taken)
+
+opens-requires-2 : tie.Need-opens-requires-2
+opens-requires-2 c κs = search needs
+
+returns-2 : tie.Need-returns-2
+unfolding kindOf
+returns-2 c = rw (← c .before .before .before .before .opens .ensures, c .before .before .before .if1 .left, ← c .before .opens2 .ensures, c .if2 .taken)
+
+returns-3 : tie.Need-returns-3
+unfolding kindOf
+returns-3 c = rw (← c .before .before .before .before .opens .ensures, c .before .before .before .if1 .left, ← c .before .opens2 .ensures, c .if2 .left)
+
+pub kind-of-spec : {M : Type 1} → statement M
+kind-of-spec = tie.close (tie.spec opens-requires returns opens-requires-2 returns-2 returns-3)

@@ -1,0 +1,83 @@
+-- What the code counts on of a head, how the lists of a frame are read as its head counts them, and what is known of a line by what it was
+-- decoded to.
+use Prim.Native.Nat.{ℕ, _+_, _*_}
+use mathlib.Core.Path.{_≡_, refl, sym, ap, _∙_}
+use mathlib.Core.List.{List}
+use mathlib.Core.Bool.{true}
+use native.Mathlib.Omega.{arith}
+use Rattle.glyph.specs.Glyph.{words}
+use Rattle.verdict.specs.declared.Table.{Table}
+use Rattle.tape_frame.specs.declared.Head.{Head}
+use Rattle.tape_frame.specs.declared.Decoded.{Decoded}
+use Rattle.tape_frame.specs.Digits.{bytesOf}
+use Rattle.tape_frame.specs.Frame.{Frame, Reading, that, none, wordsAt, valueCount, doneCount, comingCount, doneAt, comingAt, isWhole, frameIn, frameOf}
+use Rattle.tape_frame.specs.FrameLaws.{length-words, whole-keeps, frame-has}
+use Rattle.tape_frame.specs.Decoding.{headOf, decoded, Decodes, Bounded}
+use Rattle.tape_frame.specs.Put.{put-none}
+
+pub head-bounded : (table : Table) (b : List ℕ) → isWhole b ≡ true → Bounded (headOf (frameIn table b))
+unfolding frameIn
+head-bounded table b e =
+    let k = whole-keeps b e in
+    record {
+      values = omega (arith, length-words (valueCount b) 16 b, k .values);
+      done = omega (arith, length-words (words * doneCount b) (doneAt b) b, k .done);
+      coming = omega (arith, length-words (words * comingCount b) (comingAt b) b, k .coming);
+    }
+
+-- no frame: nothing is stored
+pub decodes-none : (r : Reading) (v d c : List ℕ) → r ≡ none → Decodes r Decoded.NoFrame v v d d c c
+decodes-none r v d c e =
+    rw e (record { answers = refl; values = sym (put-none v 0); done = sym (put-none d 0); coming = sym (put-none c 0) })
+
+-- the lists of a frame, read as its head counts them
+module _ (table : Table) (b : List ℕ) (h : Head) (e : h ≡ headOf (frameIn table b)) where
+  count-values : h .values ≡ valueCount b
+  unfolding frameIn
+  count-values = ap (λ (x : Head). x .values) e ∙ length-words (valueCount b) 16 b
+
+  count-done : h .done ≡ words * doneCount b
+  unfolding frameIn
+  count-done = ap (λ (x : Head). x .done) e ∙ length-words (words * doneCount b) (doneAt b) b
+
+  count-coming : h .coming ≡ words * comingCount b
+  unfolding frameIn
+  count-coming = ap (λ (x : Head). x .coming) e ∙ length-words (words * comingCount b) (comingAt b) b
+
+  pub rows-values : wordsAt (h .values) 16 b ≡ frameIn table b .values
+  unfolding frameIn
+  rows-values = ap (λ (n : ℕ). wordsAt n 16 b) count-values
+
+  pub rows-done : wordsAt (h .done) (20 + 4 * h .values) b ≡ frameIn table b .done
+  unfolding frameIn
+  rows-done =
+      let from : 20 + 4 * h .values ≡ doneAt b = omega (arith, count-values) in
+      ap (λ (n : ℕ). wordsAt n (20 + 4 * h .values) b) count-done ∙ ap (λ (n : ℕ). wordsAt (words * doneCount b) n b) from
+
+  pub rows-coming : wordsAt (h .coming) (20 + 4 * h .values + 4 * h .done) b ≡ frameIn table b .coming
+  unfolding frameIn
+  rows-coming =
+      let from : 20 + 4 * h .values + 4 * h .done ≡ comingAt b = omega (arith, count-values, count-done) in
+      ap (λ (n : ℕ). wordsAt n (20 + 4 * h .values + 4 * h .done) b) count-coming
+      ∙ ap (λ (n : ℕ). wordsAt (words * comingCount b) n b) from
+
+pub frame-bounded : (l : List ℕ) (f : Frame) → frameOf l ≡ that f → Bounded (headOf f)
+frame-bounded l f h = let p = frame-has l f h in rw (p .same) (head-bounded (p .table) (bytesOf l) (p .full))
+
+-- ---- what is known of a line by what it was decoded to
+
+pub none-told : (r : Reading) → Decoded.NoFrame ≡ decoded r → r ≡ none
+none-told (that f) e = let z : _≡_ {A = ℕ} 0 1 = cc in absurd (omega arith)
+none-told none e = refl
+
+pub record Told (r : Reading) (h : Head) : Type 0 where
+  pub frame : Frame
+  pub is : r ≡ that frame
+  pub head : h ≡ headOf frame
+
+pub frame-told : (r : Reading) (h : Head) → Decoded.Frame h ≡ decoded r → Told r h
+frame-told (that f) h e = record { frame = f; is = refl; head = cc }
+frame-told none h e = let z : _≡_ {A = ℕ} 0 1 = cc in absurd (omega arith)
+
+pub told-bounded : (l : List ℕ) (h : Head) → Told (frameOf l) h → Bounded h
+told-bounded l h t = rw (t .head) (frame-bounded l (t .frame) (t .is))

@@ -1,0 +1,166 @@
+// A frame of the bench tape: its types and definitions, and its parts as they stand in its bytes.
+use verdict::Settings;
+use verdict::Table;
+ghost use mathlib.Core.Path.{_≡_};
+ghost use Prim.Native.Nat.{_+_, _*_, _≤_};
+ghost use lib.ListN.{length, getD};
+ghost use Rattle.tape_frame.specs.Frame.{halfAt, wordAt, wordsAt, opens, kindOf, settingsOf, valueCount, doneCount, comingCount, isWhole, frameIn};
+ghost use Rattle.tape_frame.specs.Decoding.{headOf};
+ghost use Rattle.tape_frame.specs.Put.{put};
+
+// Values, and records in each row, at most.
+pub const MOST_VALUES: usize = 64;
+
+pub const MOST_RECORDS: usize = 64;
+
+// The longest frame's bytes and digits: everything but values and records is 20 bytes.
+pub const MOST_BYTES: usize = 20 + 4 * MOST_VALUES + 4 * glyph::WORDS * (2 * MOST_RECORDS);
+
+pub const MOST_DIGITS: usize = 2 * MOST_BYTES;
+
+// The words of a frame's row, at most.
+pub const ROW: usize = glyph::WORDS * MOST_RECORDS;
+
+// The table kind that an opening chooses.
+pub enum Kind {
+    Gsub,
+    Gpos,
+    Neither,
+}
+
+// A frame's numbers: what a lookup asks, the cursor, and how many words each of its lists has.
+pub struct Head {
+    pub settings: Settings,
+    pub mask: u32,
+    pub props: u32,
+    pub cursor: usize,
+    pub values: usize,
+    pub done: usize,
+    pub coming: usize,
+}
+
+pub enum Decoded {
+    Frame(Head),
+    NoFrame,
+}
+
+// ---- numbers, big-endian; what stands past the end counts as 0. Places are far below the largest number, so that no sum wraps.
+
+fn byte_at(b: &[u8], at: usize) -> u8
+    ensures { λ r. ⌜ r ≡ getD (now (b .entry)) at 0 ⌝ }
+{
+    if at < b.len() { b[at] } else { 0 }
+}
+
+fn half_at(b: &[u8], at: usize) -> u16
+    requires { ⌜ at ≤ 65536 ⌝ }
+    ensures { λ r. ⌜ r ≡ halfAt (now (b .entry)) at ⌝ }
+{
+    let high = byte_at(b, at) as u16;
+    let low = byte_at(b, at + 1) as u16;
+    high * 256 + low
+}
+
+fn word_at(b: &[u8], at: usize) -> u32
+    requires { ⌜ at ≤ 65000 ⌝ }
+    ensures { λ r. ⌜ r ≡ wordAt (now (b .entry)) at ⌝ }
+{
+    let high = half_at(b, at) as u32;
+    let low = half_at(b, at + 2) as u32;
+    high * 65536 + low
+}
+
+// The n words of b from `at` on, from the front of `out`.
+pub fn fill(b: &[u8], at: usize, n: usize, out: &mut [u32])
+    requires { ⌜ (at + 4 * n ≤ 65000) × (n ≤ length (now out)) ⌝ }
+    ensures { λ _. ⌜ now (out .exit) ≡ put (now (out .entry)) 0 (wordsAt n at (now (b .entry))) ⌝ }
+{
+    let mut i = 0;
+    while i < n {
+        out[i] = word_at(b, at + 4 * i);
+        i += 1;
+    }
+}
+
+// ---- the frame's parts
+
+// Whether the bytes begin with those of `name`.
+fn opens(b: &[u8], name: &[u8; 4]) -> bool
+    ensures { λ r. ⌜ r ≡ opens (now (b .entry)) (now (name .entry)) ⌝ }
+{
+    (byte_at(b, 0) == name[0])
+        & (byte_at(b, 1) == name[1])
+        & (byte_at(b, 2) == name[2])
+        & (byte_at(b, 3) == name[3])
+}
+
+pub fn kind_of(b: &[u8]) -> Kind
+    ensures { λ r. ⌜ r ≡ kindOf (now (b .entry)) ⌝ }
+{
+    if opens(b, b"GSUB") {
+        return Kind::Gsub;
+    }
+    if opens(b, b"GPOS") {
+        return Kind::Gpos;
+    }
+    Kind::Neither
+}
+
+fn settings_of(table: Table, s: u8) -> Settings
+    ensures { λ r. ⌜ r ≡ settingsOf table s ⌝ }
+{
+    Settings {
+        table,
+        zwnj: s % 2 == 1,
+        zwj: s / 2 % 2 == 1,
+        syllables: s / 4 % 2 == 1,
+    }
+}
+
+fn value_count(b: &[u8]) -> u8
+    ensures { λ r. ⌜ r ≡ valueCount (now (b .entry)) ⌝ }
+{
+    byte_at(b, 15)
+}
+
+fn done_count(b: &[u8]) -> u16
+    ensures { λ r. ⌜ r ≡ doneCount (now (b .entry)) ⌝ }
+{
+    let v = value_count(b) as usize;
+    half_at(b, 16 + 4 * v)
+}
+
+fn coming_count(b: &[u8]) -> u16
+    ensures { λ r. ⌜ r ≡ comingCount (now (b .entry)) ⌝ }
+{
+    let v = value_count(b) as usize;
+    half_at(b, 16 + 4 * v + 2)
+}
+
+// No other settings bits, the limits, and no byte too few or too many.
+pub fn is_whole(b: &[u8]) -> bool
+    ensures { λ r. ⌜ r ≡ isWhole (now (b .entry)) ⌝ }
+{
+    let v = value_count(b) as usize;
+    let d = done_count(b) as usize;
+    let c = coming_count(b) as usize;
+    let end = 16 + 4 * v + 4 + 4 * (glyph::WORDS * d) + 4 * (glyph::WORDS * c);
+    (byte_at(b, 4) < 8)
+        & (v <= MOST_VALUES)
+        & ((d <= MOST_RECORDS) & (c <= MOST_RECORDS))
+        & (b.len() == end)
+}
+
+pub fn head_of(table: Table, b: &[u8]) -> Head
+    ensures { λ r. ⌜ r ≡ headOf (frameIn table (now (b .entry))) ⌝ }
+{
+    Head {
+        settings: settings_of(table, byte_at(b, 4)),
+        mask: word_at(b, 5),
+        props: word_at(b, 9),
+        cursor: half_at(b, 13) as usize,
+        values: value_count(b) as usize,
+        done: glyph::WORDS * done_count(b) as usize,
+        coming: glyph::WORDS * coming_count(b) as usize,
+    }
+}
