@@ -229,7 +229,9 @@ fn read_desk(words: &[String]) -> Option<(Said, Vec<usize>)> {
             r.skip(9);
             rust_struct(&mut r, &mut said)?;
         } else if r.peek(1) == "::" && r.peek(3) == "=>" && is_name(r.peek(0)) {
-            let name = number_name(r.peek(0), r.peek(2));
+            // The header has one list of refusals, for the matchers' and for a run's.
+            let of = if r.peek(0) == "RunRefusal" { "Refusal" } else { r.peek(0) };
+            let name = number_name(of, r.peek(2));
             r.at += 4;
             let at = if r.peek(0) == "Said" && r.starts(&["Said", "{", "number", ":", "0", ",", "said", ":"]) { 8 } else { 0 };
             if let Some(value) = number(r.peek(at)) {

@@ -15,23 +15,23 @@ most = 2 ^ 64 - 1
 abbrev pub opening : ℕ → ℕ
 opening bytes = max 4194304 (min 134217728 (min most (bytes * 256)))
 
-abbrev pub opened : ℕ → ℕ → Budget
-opened work bytes = record { work = work; bytes = bytes }
+abbrev pub budgetWith : ℕ → ℕ → Budget
+budgetWith work bytes = record { work = work; bytes = bytes }
 
 -- what is answered, beside what is left
-abbrev pub taken : Budget → Charged
-taken b = record { charge = Taken; left = b }
+abbrev pub chargeTaken : Budget → Charged
+chargeTaken b = record { charge = Taken; left = b }
 
-abbrev pub exhausted : Budget → Charged
-exhausted b = record { charge = Exhausted; left = b }
+abbrev pub chargeExhausted : Budget → Charged
+chargeExhausted b = record { charge = Exhausted; left = b }
 
 -- more than remains is Exhausted and takes nothing; anything else, 0 always, is taken
 unfoldable pub worked : ℕ → Budget → Charged
 worked visits b =
-    cond (leb visits (b .work)) (taken (opened (b .work - visits) (b .bytes))) (exhausted b)
+    cond (leb visits (b .work)) (chargeTaken (budgetWith (b .work - visits) (b .bytes))) (chargeExhausted b)
 
 -- the same for count × size bytes; a product that passes 64 bits is Exhausted
 unfoldable pub allocated : ℕ → ℕ → Budget → Charged
 allocated count size b =
-    cond (ltb most (count * size)) (exhausted b)
-    (cond (leb (count * size) (b .bytes)) (taken (opened (b .work) (b .bytes - count * size))) (exhausted b))
+    cond (ltb most (count * size)) (chargeExhausted b)
+    (cond (leb (count * size) (b .bytes)) (chargeTaken (budgetWith (b .work) (b .bytes - count * size))) (chargeExhausted b))

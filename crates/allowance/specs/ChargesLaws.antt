@@ -9,54 +9,54 @@ use native.Mathlib.Omega.{arith}
 use Rattle.allowance.specs.declared.Budget.{Budget}
 use Rattle.allowance.specs.declared.Charge.{Charge}
 use Rattle.allowance.specs.declared.Charge.the-variants.{Taken, Exhausted}
-use Rattle.allowance.specs.Allowance.{most, opening, opened}
-use Rattle.allowance.specs.Laws.{Kept, worked-kept, allocated-kept}
-use Rattle.allowance.specs.Charges.{Asked, Visits, Things, chargedFor, workOf, bytesOf, answersTo, leftAfter, sumTaken}
+use Rattle.allowance.specs.Allowance.{most, opening, budgetWith}
+use Rattle.allowance.specs.Laws.{Balances, worked-kept, allocated-kept}
+use Rattle.allowance.specs.Charges.{Charging, Visits, Things, chargedFor, workAsked, bytesAsked, answersTo, leftAfter, sumTaken}
 
 -- ---- one charge, in both counters
 
-abbrev Keeps : Charge → Asked → Budget → Budget → Type 0
-Keeps Taken a b left = (workOf a + left .work ≡ b .work) × (bytesOf a + left .bytes ≡ b .bytes)
+abbrev Keeps : Charge → Charging → Budget → Budget → Type 0
+Keeps Taken a b left = (workAsked a + left .work ≡ b .work) × (bytesAsked a + left .bytes ≡ b .bytes)
 Keeps Exhausted a b left = left ≡ b
 
 same-budget : (b c : Budget) → b .work ≡ c .work → b .bytes ≡ c .bytes → b ≡ c
 same-budget b c e f = λ i. record { work = e i; bytes = f i }
 
-of-visits : (answer : Charge) (n : ℕ) (b left : Budget) → Kept answer n (b .work) (left .work) (b .bytes) (left .bytes) → Keeps answer (Visits n) b left
-unfolding workOf bytesOf
+of-visits : (answer : Charge) (n : ℕ) (b left : Budget) → Balances answer n (b .work) (left .work) (b .bytes) (left .bytes) → Keeps answer (Visits n) b left
+unfolding workAsked bytesAsked
 of-visits Taken n b left k = (k .0, omega (arith, k .1))
 of-visits Exhausted n b left k = same-budget left b (k .1) (k .2)
 
-of-things : (answer : Charge) (n s : ℕ) (b left : Budget) → Kept answer (n * s) (b .bytes) (left .bytes) (b .work) (left .work) → Keeps answer (Things n s) b left
-unfolding workOf bytesOf
+of-things : (answer : Charge) (n s : ℕ) (b left : Budget) → Balances answer (n * s) (b .bytes) (left .bytes) (b .work) (left .work) → Keeps answer (Things n s) b left
+unfolding workAsked bytesAsked
 of-things Taken n s b left k = (omega (arith, k .1), k .0)
 of-things Exhausted n s b left k = same-budget left b (k .2) (k .1)
 
-one-keeps : (a : Asked) (b : Budget) → b .bytes ≤ most → Keeps (chargedFor a b .charge) a b (chargedFor a b .left)
+one-keeps : (a : Charging) (b : Budget) → b .bytes ≤ most → Keeps (chargedFor a b .charge) a b (chargedFor a b .left)
 one-keeps (Visits n) b h = of-visits (chargedFor (Visits n) b .charge) n b (chargedFor (Visits n) b .left) (worked-kept b n)
 one-keeps (Things n s) b h = of-things (chargedFor (Things n s) b .charge) n s b (chargedFor (Things n s) b .left) (allocated-kept b n s h)
 
-no-more : (answer : Charge) (a : Asked) (b left : Budget) → Keeps answer a b left → b .bytes ≤ most → left .bytes ≤ most
+no-more : (answer : Charge) (a : Charging) (b left : Budget) → Keeps answer a b left → b .bytes ≤ most → left .bytes ≤ most
 no-more Taken a b left k h = omega (arith, k .1)
 no-more Exhausted a b left k h = rw k h
 
-left-within : (a : Asked) (b : Budget) → b .bytes ≤ most → chargedFor a b .left .bytes ≤ most
+left-within : (a : Charging) (b : Budget) → b .bytes ≤ most → chargedFor a b .left .bytes ≤ most
 left-within a b h = no-more (chargedFor a b .charge) a b (chargedFor a b .left) (one-keeps a b h) h
 
 -- ---- all of them
 
 -- what was taken of each counter, plus what remains of it, is what it had
-abbrev pub AddsUp : List Asked → List Charge → Budget → Budget → Type 0
-AddsUp charges answers b left =
-    (sumTaken workOf charges answers + left .work ≡ b .work) × (sumTaken bytesOf charges answers + left .bytes ≡ b .bytes)
+abbrev pub ChargesAddUp : List Charging → List Charge → Budget → Budget → Type 0
+ChargesAddUp charges answers b left =
+    (sumTaken workAsked charges answers + left .work ≡ b .work) × (sumTaken bytesAsked charges answers + left .bytes ≡ b .bytes)
 
-adds-more : (answer : Charge) (a : Asked) (more : List Asked) (answers : List Charge) (b mid left : Budget)
-    → Keeps answer a b mid → AddsUp more answers mid left → AddsUp (a ∷ more) (answer ∷ answers) b left
+adds-more : (answer : Charge) (a : Charging) (more : List Charging) (answers : List Charge) (b mid left : Budget)
+    → Keeps answer a b mid → ChargesAddUp more answers mid left → ChargesAddUp (a ∷ more) (answer ∷ answers) b left
 unfolding sumTaken
 adds-more Taken a more answers b mid left k s = (omega (arith, k .0, s .0), omega (arith, k .1, s .1))
 adds-more Exhausted a more answers b mid left k s = (s .0 ∙ ap (λ (c : Budget). c .work) k, s .1 ∙ ap (λ (c : Budget). c .bytes) k)
 
-pub adds-up : (charges : List Asked) (b : Budget) → b .bytes ≤ most → AddsUp charges (answersTo charges b) b (leftAfter charges b)
+pub adds-up : (charges : List Charging) (b : Budget) → b .bytes ≤ most → ChargesAddUp charges (answersTo charges b) b (leftAfter charges b)
 unfolding sumTaken answersTo leftAfter
 adds-up [] b h = (omega arith, omega arith)
 adds-up (a ∷ more) b h =
@@ -64,8 +64,8 @@ adds-up (a ∷ more) b h =
     (one-keeps a b h) (adds-up more (chargedFor a b .left) (left-within a b h))
 
 -- from the opening of a table of any size
-pub opening-adds-up : (table : ℕ) (charges : List Asked) → let b = opened (opening table) (opening table) in AddsUp charges (answersTo charges b) b (leftAfter charges b)
-opening-adds-up table charges = adds-up charges (opened (opening table) (opening table)) (omega arith)
+pub opening-adds-up : (table : ℕ) (charges : List Charging) → let b = budgetWith (opening table) (opening table) in ChargesAddUp charges (answersTo charges b) b (leftAfter charges b)
+opening-adds-up table charges = adds-up charges (budgetWith (opening table) (opening table)) (omega arith)
 
 -- ---- Exhausted changes nothing
 
@@ -73,15 +73,15 @@ abbrev isTaken : Charge → Bool
 isTaken Taken = true
 isTaken Exhausted = false
 
-by-exhausted : (answer : Charge) (a : Asked) (b left : Budget) → Keeps answer a b left → answer ≡ Exhausted → left ≡ b
+by-exhausted : (answer : Charge) (a : Charging) (b left : Budget) → Keeps answer a b left → answer ≡ Exhausted → left ≡ b
 by-exhausted Taken a b left k e = absurd (true≢false (ap isTaken e))
 by-exhausted Exhausted a b left k e = k
 
-pub exhausted-same : (a : Asked) (b : Budget) → b .bytes ≤ most → chargedFor a b .charge ≡ Exhausted → chargedFor a b .left ≡ b
+pub exhausted-same : (a : Charging) (b : Budget) → b .bytes ≤ most → chargedFor a b .charge ≡ Exhausted → chargedFor a b .left ≡ b
 exhausted-same a b h e = by-exhausted (chargedFor a b .charge) a b (chargedFor a b .left) (one-keeps a b h) e
 
 -- wherever it stands among others: without it the others leave the same
-pub exhausted-left-out : (before after : List Asked) (a : Asked) (b : Budget) → b .bytes ≤ most → chargedFor a (leftAfter before b) .charge ≡ Exhausted
+pub exhausted-left-out : (before after : List Charging) (a : Charging) (b : Budget) → b .bytes ≤ most → chargedFor a (leftAfter before b) .charge ≡ Exhausted
     → leftAfter (before ++ a ∷ after) b ≡ leftAfter (before ++ after) b
 unfolding leftAfter
 exhausted-left-out [] after a b h e = ap (leftAfter after) (exhausted-same a b h e)

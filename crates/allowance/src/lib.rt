@@ -2,7 +2,7 @@
 ghost use mathlib.Core.Path.{_≡_};
 ghost use Prim.Native.Nat.{_-_, _*_, _≤_};
 ghost use lib.Dec.{ltb};
-ghost use Rattle.allowance.specs.Allowance.{most, opening, opened, worked, allocated};
+ghost use Rattle.allowance.specs.Allowance.{most, opening, budgetWith, worked, allocated};
 
 pub struct Budget {
     pub work: u64,
@@ -27,13 +27,13 @@ const MOST: u64 = 134_217_728;
 impl Budget {
     // The allowance of a table of so many bytes.
     pub fn for_table_bytes(bytes: u64) -> Self
-        ensures { λ r. ⌜ r ≡ opened (opening bytes) (opening bytes) ⌝ }
+        ensures { λ r. ⌜ r ≡ budgetWith (opening bytes) (opening bytes) ⌝ }
     {
         Budget::new(size_for(bytes), size_for(bytes))
     }
 
     pub fn new(work: u64, bytes: u64) -> Self
-        ensures { λ r. ⌜ r ≡ opened work bytes ⌝ }
+        ensures { λ r. ⌜ r ≡ budgetWith work bytes ⌝ }
     {
         Budget { work, bytes }
     }

@@ -14,7 +14,7 @@ use Rattle.book.specs.declared.Part.{Part}
 use Rattle.book.specs.declared.Counted.{Counted}
 use Rattle.book.specs.declared.ChainParts.{ChainParts}
 use Rattle.book.specs.declared.Entry.{Entry}
-use Rattle.book.specs.Book.{mostIds, mostInput, mostSide, mostRecords, Lookup, Kind1, Kind2, Kind3, recordsOf, Found, Is, None, Split, Taken, Short, counted, andThen, whole, kind1, kind2, kind3, bodyOf}
+use Rattle.book.specs.Book.{mostIds, mostInput, mostSide, mostRecords, Lookup, Kind1, Kind2, Kind3, recordsOf, Found, Is, None, Split, Taken, Short, counted, andThen, wholeLookup, kind1, kind2, kind3, bodyOf}
 use Rattle.book.specs.Places.{partOf, chainOf, meant, countedAt, partThen, wholeAt, oneAt, manyAt, chainAt, kindAt}
 
 -- ---- entries after their number
@@ -58,11 +58,11 @@ module _ (w : List ℕ) (f : List ℕ → List ℕ → Found) (g : Part → Entr
   then-at : (x each most : ℕ) → andThen (counted each most (drop x w)) f ≡ meant w (partThen (countedAt w x each most) g)
   then-at x each most = ap (λ (s : Split). andThen s f) (counted-at w x each most) ∙ then-by (countedAt w x each most)
 
-whole-by : (w : List ℕ) (x : ℕ) (e : Entry) (l : Lookup) (t : Bool) → leb (length w) x ≡ t → Is l ≡ meant w e → whole (drop x w) l ≡ meant w (wholeAt w x e)
+whole-by : (w : List ℕ) (x : ℕ) (e : Entry) (l : Lookup) (t : Bool) → leb (length w) x ≡ t → Is l ≡ meant w e → wholeLookup (drop x w) l ≡ meant w (wholeAt w x e)
 whole-by w x e l true t m = rw (t, drop-of-length-le w {i = x} (leb-true (length w) x t)) m
 whole-by w x e l false t m = rw (t, drop-cons w x 0 (leb-false (length w) x t))
 
-whole-at : (w : List ℕ) (x : ℕ) (e : Entry) (l : Lookup) → Is l ≡ meant w e → whole (drop x w) l ≡ meant w (wholeAt w x e)
+whole-at : (w : List ℕ) (x : ℕ) (e : Entry) (l : Lookup) → Is l ≡ meant w e → wholeLookup (drop x w) l ≡ meant w (wholeAt w x e)
 whole-at w x e l m = whole-by w x e l (leb (length w) x) refl m
 
 -- ---- a body, by its kind
@@ -89,7 +89,7 @@ unfolding manyAt
 many-by w props a true e =
     ap (kind2 props) (cons-at w a e)
     ∙ rw e
-    (then-at w (λ ids over. whole over (Kind2 props (getD w a 0) ids))
+    (then-at w (λ ids over. wholeLookup over (Kind2 props (getD w a 0) ids))
     (λ ids. wholeAt w (ids .to) (Entry.Many props (getD w a 0) ids))
     (λ p. whole-at w (p .to) (Entry.Many props (getD w a 0) p) (Kind2 props (getD w a 0) (partOf w p)) refl) (a + 1) 1 mostIds)
 many-by w props a false e = ap (kind2 props) (nil-at w a e) ∙ rw e

@@ -75,9 +75,9 @@ andThen (Taken entries rest) f = f entries rest
 andThen Short f = None
 
 -- a lookup that leaves no word over
-abbrev pub whole : List ℕ → Lookup → Found
-whole [] l = Is l
-whole (w ∷ over) l = None
+abbrev pub wholeLookup : List ℕ → Lookup → Found
+wholeLookup [] l = Is l
+wholeLookup (w ∷ over) l = None
 
 -- from, to
 abbrev pub kind1 : ℕ → List ℕ → Found
@@ -86,7 +86,7 @@ kind1 props ws = cond (eqb (length ws) 2) (Is (Kind1 props (getD ws 0 0) (getD w
 -- from, and ids after their number
 abbrev pub kind2 : ℕ → List ℕ → Found
 kind2 props [] = None
-kind2 props (from ∷ ws) = andThen (counted 1 mostIds ws) (λ ids over. whole over (Kind2 props from ids))
+kind2 props (from ∷ ws) = andThen (counted 1 mostIds ws) (λ ids over. wholeLookup over (Kind2 props from ids))
 
 -- first id, then backtrack, input and lookahead values and records, each after their number
 abbrev pub kind3 : ℕ → List ℕ → Found
@@ -96,7 +96,7 @@ kind3 props (first ∷ ws) =
     andThen (counted 1 mostInput r) (λ input s.
     andThen (counted 1 mostSide s) (λ ahead t.
     andThen (counted 2 mostRecords t) (λ pairs over.
-    whole over (Kind3 props (record { first = first; backtrack = back; input = input; lookahead = ahead; records = recordsOf pairs }))))))
+    wholeLookup over (Kind3 props (record { first = first; backtrack = back; input = input; lookahead = ahead; records = recordsOf pairs }))))))
 
 -- the lookup of a kind whose whole body is these words
 unfoldable pub bodyOf : ℕ → ℕ → List ℕ → Found
@@ -124,12 +124,12 @@ pub data Reading : Type 0 where
   Reads : List Lookup → Reading
   Unreadable : Reading
 
-abbrev pub joined : Lookup → Reading → Reading
-joined l (Reads ls) = Reads (l ∷ ls)
-joined l Unreadable = Unreadable
+abbrev pub readFirst : Lookup → Reading → Reading
+readFirst l (Reads ls) = Reads (l ∷ ls)
+readFirst l Unreadable = Unreadable
 
 abbrev pub readOn : First → (List ℕ → Reading) → Reading
-readOn (Read l rest) others = joined l (others rest)
+readOn (Read l rest) others = readFirst l (others rest)
 readOn Nothing others = Unreadable
 
 -- at most n lookups, with no word over

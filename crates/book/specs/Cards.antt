@@ -4,14 +4,14 @@ use mathlib.Core.List.{List, [], _∷_}
 use Rattle.book.specs.Book.{recordsOf, Kind1, Kind2, Kind3, counted, bodyOf, firstOf, Reads, Unreadable, readLookups, readBook}
 
 -- K11: lookup 0 turns 2 into 2, 2
-pub k11 : readBook (2 ∷ 0 ∷ 0 ∷ 4 ∷ 2 ∷ 2 ∷ 2 ∷ 2 ∷ []) ≡ Reads (Kind2 0 2 (2 ∷ 2 ∷ []) ∷ [])
+pub k11-reads : readBook (2 ∷ 0 ∷ 0 ∷ 4 ∷ 2 ∷ 2 ∷ 2 ∷ 2 ∷ []) ≡ Reads (Kind2 0 2 (2 ∷ 2 ∷ []) ∷ [])
 unfolding readBook readLookups firstOf bodyOf counted
-k11 = refl
+k11-reads = refl
 
 -- K13: lookup 0 turns 2 into nothing
-pub k13 : readBook (2 ∷ 0 ∷ 0 ∷ 2 ∷ 2 ∷ 0 ∷ []) ≡ Reads (Kind2 0 2 [] ∷ [])
+pub k13-reads : readBook (2 ∷ 0 ∷ 0 ∷ 2 ∷ 2 ∷ 0 ∷ []) ≡ Reads (Kind2 0 2 [] ∷ [])
 unfolding readBook readLookups firstOf bodyOf counted
-k13 = refl
+k13-reads = refl
 
 -- a chain on 5 with 4 before it, 6 matched and 7 ahead, whose record applies lookup 1 at position 1; its props are 8 and mark set 3
 pub chained : readBook (3 ∷ 8 ∷ 3 ∷ 10 ∷ 5 ∷ 1 ∷ 4 ∷ 1 ∷ 6 ∷ 1 ∷ 7 ∷ 1 ∷ 1 ∷ 1 ∷ 1 ∷ 0 ∷ 0 ∷ 2 ∷ 6 ∷ 9 ∷ [])

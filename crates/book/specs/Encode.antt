@@ -52,14 +52,14 @@ pub record ChainWithin (c : Chain ℕ) : Type 0 where
   pub records : length (c .records) ≤ mostRecords
 
 -- a lookup within the limits
-abbrev pub Within : Lookup → Type 0
-Within (Kind1 props from to) = Unit {0}
-Within (Kind2 props from ids) = length ids ≤ mostIds
-Within (Kind3 props chain) = ChainWithin chain
+abbrev pub LookupWithin : Lookup → Type 0
+LookupWithin (Kind1 props from to) = Unit {0}
+LookupWithin (Kind2 props from ids) = length ids ≤ mostIds
+LookupWithin (Kind3 props chain) = ChainWithin chain
 
 unfoldable pub AllWithin : List Lookup → Type 0
 AllWithin [] = Unit {0}
-AllWithin (l ∷ ls) = Within l × AllWithin ls
+AllWithin (l ∷ ls) = LookupWithin l × AllWithin ls
 
 -- a list of lookups that is a book
 pub record Legal (ls : List Lookup) : Type 0 where

@@ -11,29 +11,29 @@ use lib.Dec.{leb, ltb}
 use lib.ListN.{length, getD, drop, length-drop, length-set, length-replicate, drop-of-length-le}
 use lib.Seq.{drop-cons, getD-set-same, getD-set-other}
 use Rattle.book.specs.declared.Entry.{Entry}
-use Rattle.book.specs.Book.{mostWords, mostLookups, Lookup, Kind1, Is, None, Reading, Reads, Unreadable, joined, readLookups, readBook, lookupAt}
-use Rattle.book.specs.Places.{meant, entryAt, missing, sizeAt, startOf, slots, indexed, indexOf, foundIn, foundAt}
-use Rattle.book.specs.Inside.{Good}
+use Rattle.book.specs.Book.{mostWords, mostLookups, Lookup, Kind1, Is, None, Reading, Reads, Unreadable, readFirst, readLookups, readBook, lookupAt}
+use Rattle.book.specs.Places.{meant, entryAt, missing, sizeAt, startOf, startSlots, indexed, indexOf, foundIn, foundAt}
+use Rattle.book.specs.Inside.{EntryInside}
 use Rattle.book.specs.Readings.{entry-inside}
 use Rattle.book.specs.Starts.{Next, next, no-read, stuck, reads-nil, reads-over}
 
 -- ---- the slots
 
-length-slots : (n : ℕ) (ws : List ℕ) → length (slots n ws) ≡ mostLookups
-unfolding slots
+length-slots : (n : ℕ) (ws : List ℕ) → length (startSlots n ws) ≡ mostLookups
+unfolding startSlots
 length-slots zero ws = length-replicate {A = ℕ} mostLookups 0
-length-slots (suc n) ws = length-set (slots n ws) n (startOf n ws) ∙ length-slots n ws
+length-slots (suc n) ws = length-set (startSlots n ws) n (startOf n ws) ∙ length-slots n ws
 
-pub slot-is : (n : ℕ) (ws : List ℕ) (k : ℕ) → n ≤ mostLookups → k < n → getD (slots n ws) k 0 ≡ startOf k ws
-unfolding slots
+pub slot-is : (n : ℕ) (ws : List ℕ) (k : ℕ) → n ≤ mostLookups → k < n → getD (startSlots n ws) k 0 ≡ startOf k ws
+unfolding startSlots
 slot-is zero ws k h l = let z : ⊥ = omega arith in absurd z
 slot-is (suc n) ws k h l =
     let g : k ≤ n = omega arith in
     ⊎-elim
     (λ e.
     rw e
-    (getD-set-same (slots n ws) n (startOf n ws) 0 (omega (arith, length-slots n ws))))
-    (λ m. getD-set-other (slots n ws) n k (startOf n ws) 0 (λ z. omega arith) ∙ slot-is n ws k (omega arith) m)
+    (getD-set-same (startSlots n ws) n (startOf n ws) 0 (omega (arith, length-slots n ws))))
+    (λ m. getD-set-other (startSlots n ws) n k (startOf n ws) 0 (λ z. omega arith) ∙ slot-is n ws k (omega arith) m)
     (eq-or-lt-of-le g)
 
 -- ---- one lookup off
@@ -47,7 +47,7 @@ record Off (ws : List ℕ) (m at : ℕ) (l : Lookup) (ls : List Lookup) : Type 0
   pub within : at + sizeAt ws at ≤ length ws
 
 off-by : (ws : List ℕ) (m at : ℕ) (x : Next m ws at) (l : Lookup) (ls : List Lookup) (r : Reading)
-    → readLookups m (drop (at + sizeAt ws at) ws) ≡ r → joined (x .it) r ≡ Reads (l ∷ ls) → Off ws m at l ls
+    → readLookups m (drop (at + sizeAt ws at) ws) ≡ r → readFirst (x .it) r ≡ Reads (l ∷ ls) → Off ws m at l ls
 off-by ws m at x l ls (Reads ks) e f =
     let p : x .it ≡ l = cc in
     let q : ks ≡ ls = cc in
@@ -154,12 +154,12 @@ pub found-is : (ws : List ℕ) (ls : List Lookup) (k : ℕ) → readBook ws ≡ 
 unfolding indexOf
 found-is ws ls k e = rw e (found-by ws ls k (ltb k (length ls)) refl (kept ws ls e))
 
-inside-by : (ws : List ℕ) (t b : Bool) (at : ℕ) → Good (length ws) (cond t (cond b (entryAt ws at) Entry.Missing) Entry.Missing)
+inside-by : (ws : List ℕ) (t b : Bool) (at : ℕ) → EntryInside (length ws) (cond t (cond b (entryAt ws at) Entry.Missing) Entry.Missing)
 inside-by ws true true at = entry-inside ws at
 inside-by ws true false at = tt
 inside-by ws false b at = tt
 
 -- its parts lie within the words and keep the limits, by any table of starts
-pub found-inside : (ws starts : List ℕ) (count k : ℕ) → Good (length ws) (foundIn ws starts count k)
+pub found-inside : (ws starts : List ℕ) (count k : ℕ) → EntryInside (length ws) (foundIn ws starts count k)
 unfolding foundIn
 found-inside ws starts count k = inside-by ws (ltb k count) (ltb k mostLookups) (getD starts k 0)

@@ -19,25 +19,25 @@ use Rattle.book.specs.Places.{partOf, meant, countedAt, partThen, oneAt,
 -- ---- parts within the words
 
 -- a part of at most `most` words among n
-pub record Inside (n most : ℕ) (p : Part) : Type 0 where
+pub record PartInside (n most : ℕ) (p : Part) : Type 0 where
   pub ordered : p .from ≤ p .to
   pub within : p .to ≤ n
   pub few : p .to ≤ p .from + most
 
 pub record GoodChain (n : ℕ) (c : ChainParts) : Type 0 where
-  pub backtrack : Inside n mostSide (c .backtrack)
-  pub input : Inside n mostInput (c .input)
-  pub lookahead : Inside n mostSide (c .lookahead)
-  pub records : Inside n (2 * mostRecords) (c .records)
+  pub backtrack : PartInside n mostSide (c .backtrack)
+  pub input : PartInside n mostInput (c .input)
+  pub lookahead : PartInside n mostSide (c .lookahead)
+  pub records : PartInside n (2 * mostRecords) (c .records)
 
-abbrev pub Good : ℕ → Entry → Type 0
-Good n (Entry.One props from to) = Unit {0}
-Good n (Entry.Many props from ids) = Inside n mostIds ids
-Good n (Entry.Chain props parts) = GoodChain n parts
-Good n Entry.Missing = Unit {0}
+abbrev pub EntryInside : ℕ → Entry → Type 0
+EntryInside n (Entry.One props from to) = Unit {0}
+EntryInside n (Entry.Many props from ids) = PartInside n mostIds ids
+EntryInside n (Entry.Chain props parts) = GoodChain n parts
+EntryInside n Entry.Missing = Unit {0}
 
 abbrev Held : ℕ → ℕ → Counted → Type 0
-Held n most (Counted.Is p) = Inside n most p
+Held n most (Counted.Is p) = PartInside n most p
 Held n most Counted.Not = Unit {0}
 
 held-by : (n x v each most : ℕ) (t b c : Bool) → ltb x n ≡ t → leb v most ≡ b → leb (each * v) (n - (x + 1)) ≡ c
@@ -56,11 +56,11 @@ unfolding countedAt
 held w x each most =
     held-by (length w) x (getD w x 0) each most (ltb x (length w)) (leb (getD w x 0) most) (leb (each * getD w x 0) (length w - (x + 1))) refl refl refl
 
-good-then : (n most : ℕ) (g : Part → Entry) → ((p : Part) → Inside n most p → Good n (g p)) → (r : Counted) → Held n most r → Good n (partThen r g)
+good-then : (n most : ℕ) (g : Part → Entry) → ((p : Part) → PartInside n most p → EntryInside n (g p)) → (r : Counted) → Held n most r → EntryInside n (partThen r g)
 good-then n most g h (Counted.Is p) i = h p i
 good-then n most g h Counted.Not i = tt
 
-good-cond : (n : ℕ) (t : Bool) (e f : Entry) → Good n e → Good n f → Good n (cond t e f)
+good-cond : (n : ℕ) (t : Bool) (e f : Entry) → EntryInside n e → EntryInside n f → EntryInside n (cond t e f)
 good-cond n true e f p q = p
 good-cond n false e f p q = q
 
@@ -68,11 +68,11 @@ module _ (w : List ℕ) where
   abbrev n : ℕ
   n = length w
 
-  good-one : (props a : ℕ) → Good n (oneAt w props a)
+  good-one : (props a : ℕ) → EntryInside n (oneAt w props a)
   unfolding oneAt
   good-one props a = good-cond n (eqb (n - a) 2) (Entry.One props (getD w a 0) (getD w (a + 1) 0)) Entry.Missing tt tt
 
-  good-many : (props a : ℕ) → Good n (manyAt w props a)
+  good-many : (props a : ℕ) → EntryInside n (manyAt w props a)
   unfolding manyAt
   good-many props a =
       good-cond n (ltb a n) _ Entry.Missing
@@ -80,7 +80,7 @@ module _ (w : List ℕ) where
       (countedAt w (a + 1) 1 mostIds) (held w (a + 1) 1 mostIds))
       tt
 
-  good-chain : (props a : ℕ) → Good n (chainAt w props a)
+  good-chain : (props a : ℕ) → EntryInside n (chainAt w props a)
   unfolding chainAt
   good-chain props a =
       good-cond n (ltb a n) _ Entry.Missing
@@ -101,16 +101,16 @@ module _ (w : List ℕ) where
       (countedAt w (a + 1) 1 mostSide) (held w (a + 1) 1 mostSide))
       tt
 
-  pub good-kind : (kind props a : ℕ) → Good n (kindAt w kind props a)
+  pub good-kind : (kind props a : ℕ) → EntryInside n (kindAt w kind props a)
   unfolding kindAt
   good-kind kind props a =
       good-cond n (eqb kind 1) _ _ (good-one props a)
       (good-cond n (eqb kind 2) _ _ (good-many props a) (good-cond n (eqb kind 3) _ Entry.Missing (good-chain props a) tt))
 
-longer : (k n most : ℕ) (p : Part) → k ≤ n → Inside k most p → Inside n most p
+longer : (k n most : ℕ) (p : Part) → k ≤ n → PartInside k most p → PartInside n most p
 longer k n most p h i = record { ordered = i .ordered; within = omega (arith, i .within); few = i .few }
 
-pub good-longer : (k n : ℕ) (e : Entry) → k ≤ n → Good k e → Good n e
+pub good-longer : (k n : ℕ) (e : Entry) → k ≤ n → EntryInside k e → EntryInside n e
 good-longer k n (Entry.One props from to) h g = tt
 good-longer k n (Entry.Many props from ids) h g = longer k n mostIds ids h g
 good-longer k n (Entry.Chain props c) h g = record {
@@ -128,12 +128,12 @@ slid zero n l = rw (zero-add n)
 slid (suc f) n [] = take-nil n ∙ sym (ap (drop (suc f)) (take-nil (suc f + n)))
 slid (suc f) n (x ∷ l) = rw (suc-add f n) (slid f n l)
 
-part-front : (ws : List ℕ) (k : ℕ) (most : ℕ) (p : Part) → Inside k most p → partOf (take k ws) p ≡ partOf ws p
+part-front : (ws : List ℕ) (k : ℕ) (most : ℕ) (p : Part) → PartInside k most p → partOf (take k ws) p ≡ partOf ws p
 part-front ws k most p i =
     let e : p .from + (p .to - p .from) ≡ p .to = omega (arith, i .ordered) in
     rw (slid (p .from) (p .to - p .from) (take k ws), slid (p .from) (p .to - p .from) ws, e, take-take (p .to) k ws (i .within))
 
-pub meant-front : (ws : List ℕ) (k : ℕ) (e : Entry) → Good k e → meant (take k ws) e ≡ meant ws e
+pub meant-front : (ws : List ℕ) (k : ℕ) (e : Entry) → EntryInside k e → meant (take k ws) e ≡ meant ws e
 meant-front ws k (Entry.One props from to) g = refl
 meant-front ws k (Entry.Many props from ids) g = rw (part-front ws k mostIds ids g)
 meant-front ws k (Entry.Chain props c) g =

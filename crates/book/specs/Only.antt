@@ -9,8 +9,8 @@ use borrow.Author.Tests.{leb-true, eqb-true, le-leb, lt-leb}
 use lib.Dec.{eqb, leb}
 use lib.ListN.{length, getD, take, drop, take-append-drop}
 use lib.Seq.{length-take-le, getD-append-add}
-use Rattle.book.specs.Book.{mostLookups, mostIds, mostInput, mostSide, mostRecords, recordsOf, Chain, Lookup, Kind1, Kind2, Kind3, Found, Is, None, Split, Taken, Short, counted, andThen, whole, kind1, kind2, kind3, bodyOf, First, Read, Nothing, followed, firstOf, Reading, Reads, Unreadable, joined, readOn, readLookups, readBook}
-use Rattle.book.specs.Encode.{kindOf, propsOf, numbered, contentOf, encode, encodeAll, Within, AllWithin, Narrow, Legal}
+use Rattle.book.specs.Book.{mostLookups, mostIds, mostInput, mostSide, mostRecords, recordsOf, Chain, Lookup, Kind1, Kind2, Kind3, Found, Is, None, Split, Taken, Short, counted, andThen, wholeLookup, kind1, kind2, kind3, bodyOf, First, Read, Nothing, followed, firstOf, Reading, Reads, Unreadable, readFirst, readOn, readLookups, readBook}
+use Rattle.book.specs.Encode.{kindOf, propsOf, numbered, contentOf, encode, encodeAll, LookupWithin, AllWithin, Narrow, Legal}
 use Rattle.book.specs.Records.{records-length, pairs-back}
 use Rattle.book.specs.Starts.{no-read}
 use Rattle.book.specs.Finds.{few-lookups, kept}
@@ -68,7 +68,7 @@ record Ends (over : List ℕ) (k l : Lookup) : Type 0 where
   pub none : over ≡ []
   pub same : k ≡ l
 
-ends : (over : List ℕ) (k l : Lookup) → whole over k ≡ Is l → Ends over k l
+ends : (over : List ℕ) (k l : Lookup) → wholeLookup over k ≡ Is l → Ends over k l
 ends [] k l e = record { none = refl; same = cc }
 ends (x ∷ over) k l e = absurd (no-lookup l e)
 
@@ -78,7 +78,7 @@ record Body (kind props : ℕ) (ws : List ℕ) (l : Lookup) : Type 0 where
   pub kinded : kindOf l ≡ kind
   pub flagged : propsOf l ≡ props
   pub are : ws ≡ contentOf l
-  pub within : Within l
+  pub within : LookupWithin l
 
 -- said of a lookup that is another
 moved : (kind props : ℕ) (ws : List ℕ) (k l : Lookup) → k ≡ l → Body kind props ws k → Body kind props ws l
@@ -155,7 +155,7 @@ body-only kind props ws l e = body-by kind props ws l (eqb kind 1) (eqb kind 2) 
 
 record Heads (ws : List ℕ) (l : Lookup) (rest : List ℕ) : Type 0 where
   pub are : ws ≡ encode l ++ rest
-  pub within : Within l
+  pub within : LookupWithin l
 
 not-read : (l : Lookup) (rest : List ℕ) → Nothing ≡ Read l rest → ⊥
 not-read l rest e = let z : _≡_ {A = ℕ} 0 1 = cc in omega arith
@@ -230,7 +230,7 @@ rest-narrow ws rest l w h k =
 
 module _ (n : ℕ) (again : (ws : List ℕ) (ls : List Lookup) → Narrow ws → readLookups n ws ≡ Reads ls → Lists ws ls) where
   lists-rest : (ws rest : List ℕ) (l : Lookup) (ls : List Lookup) (r : Reading) → Narrow ws → Heads ws l rest → readLookups n rest ≡ r
-      → joined l r ≡ Reads ls → Lists ws ls
+      → readFirst l r ≡ Reads ls → Lists ws ls
   lists-rest ws rest l ls (Reads ks) w h e f =
       let s : l ∷ ks ≡ ls = cc in
       lists-more ws rest l ks ls h (again rest ks (rest-narrow ws rest l w h) e) s

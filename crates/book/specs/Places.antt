@@ -110,15 +110,15 @@ startOf zero ws = 0
 startOf (suc k) ws = startOf k ws + sizeAt ws (startOf k ws)
 
 -- the starts of the first n lookups in their slots
-unfoldable pub slots : ℕ → List ℕ → List ℕ
-slots zero ws = zeros mostLookups
-slots (suc n) ws = set (slots n ws) n (startOf n ws)
+unfoldable pub startSlots : ℕ → List ℕ → List ℕ
+startSlots zero ws = zeros mostLookups
+startSlots (suc n) ws = set (startSlots n ws) n (startOf n ws)
 
 abbrev pub noIndex : Index
 noIndex = record { reads = false; count = 0; starts = zeros mostLookups }
 
 abbrev pub indexed : List ℕ → Reading → Index
-indexed ws (Reads ls) = record { reads = true; count = length ls; starts = slots (length ls) ws }
+indexed ws (Reads ls) = record { reads = true; count = length ls; starts = startSlots (length ls) ws }
 indexed ws Unreadable = noIndex
 
 unfoldable pub indexOf : List ℕ → Index

@@ -13,7 +13,7 @@ use Rattle.book.specs.declared.Entry.{Entry}
 use Rattle.book.specs.Book.{Found, bodyOf, Nothing, followed, firstOf}
 use Rattle.book.specs.Places.{meant, kindAt, upTo, entryAt, missing}
 use Rattle.book.specs.Bodies.{kind-at}
-use Rattle.book.specs.Inside.{Good, good-kind, good-longer, slid, meant-front}
+use Rattle.book.specs.Inside.{EntryInside, good-kind, good-longer, slid, meant-front}
 
 -- ---- a lookup that begins at a place
 
@@ -31,17 +31,17 @@ module _ (ws : List ℕ) (at : ℕ) where
   abbrev kinded : Entry
   kinded = kindAt (upTo ws at) (getD ws at 0) (getD ws (at + 1) 0 + 65536 * getD ws (at + 2) 0) (at + 4)
 
-  front : at + 4 + size ≤ length ws → Good (at + 4 + size) kinded
+  front : at + 4 + size ≤ length ws → EntryInside (at + 4 + size) kinded
   front h = rw (length-take-le (at + 4 + size) ws h) at (good-kind (upTo ws at) (getD ws at 0) (getD ws (at + 1) 0 + 65536 * getD ws (at + 2) 0) (at + 4))
 
   good-by : (t b : Bool) → leb 4 (length ws - at) ≡ t → leb size (length ws - (at + 4)) ≡ b
-      → Good (length ws) (cond t (cond b kinded Entry.Missing) Entry.Missing)
+      → EntryInside (length ws) (cond t (cond b kinded Entry.Missing) Entry.Missing)
   good-by true true p q = good-longer (at + 4 + size) (length ws) kinded (up-to p q) (front (up-to p q))
   good-by true false p q = tt
   good-by false b p q = tt
 
   -- the parts of an entry lie within the words
-  pub entry-inside : Good (length ws) (entryAt ws at)
+  pub entry-inside : EntryInside (length ws) (entryAt ws at)
   unfolding entryAt
   entry-inside = good-by (leb 4 (length ws - at)) (leb size (length ws - (at + 4))) refl refl
 

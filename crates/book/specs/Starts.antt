@@ -9,8 +9,8 @@ use borrow.Author.Tests.{le-leb, lt-leb}
 use lib.ListN.{length, getD, drop, set, length-append, length-drop, drop-of-length-le}
 use Rattle.book.specs.declared.Entry.{Entry}
 use Rattle.book.specs.declared.Index.{Index}
-use Rattle.book.specs.Book.{mostWords, mostLookups, Lookup, Kind1, Kind2, Kind3, Found, Is, None, First, followed, firstOf, Reading, Reads, Unreadable, joined, readOn, readLookups, readBook, isRead}
-use Rattle.book.specs.Places.{zeros, partOf, chainOf, meant, entryAt, missing, sizeAt, startOf, slots, noIndex, indexed, indexOf}
+use Rattle.book.specs.Book.{mostWords, mostLookups, Lookup, Kind1, Kind2, Kind3, Found, Is, None, First, followed, firstOf, Reading, Reads, Unreadable, readFirst, readOn, readLookups, readBook, isRead}
+use Rattle.book.specs.Places.{zeros, partOf, chainOf, meant, entryAt, missing, sizeAt, startOf, startSlots, noIndex, indexed, indexOf}
 use Rattle.book.specs.Readings.{first-at, entry-fits}
 
 -- a book that doesn't read has no lookups
@@ -55,7 +55,7 @@ hidden ws Entry.Missing m = refl
 pub record Next (n : ℕ) (ws : List ℕ) (at : ℕ) : Type 0 where
   pub it : Lookup
   pub is : meant ws (entryAt ws at) ≡ Is it
-  pub reads : readLookups (suc n) (drop at ws) ≡ joined it (readLookups n (drop (at + sizeAt ws at) ws))
+  pub reads : readLookups (suc n) (drop at ws) ≡ readFirst it (readLookups n (drop (at + sizeAt ws at) ws))
   pub within : at + sizeAt ws at ≤ length ws
 
 module _ (ws : List ℕ) (at : ℕ) (h : at < length ws) where
@@ -102,37 +102,37 @@ size-some ws at e = some-by ws at (missing (entryAt ws at)) refl e
 
 -- ---- the walk
 
-abbrev after : List Lookup → Reading → Reading
-after [] r = r
-after (l ∷ ls) r = joined l (after ls r)
+abbrev readAfter : List Lookup → Reading → Reading
+readAfter [] r = r
+readAfter (l ∷ ls) r = readFirst l (readAfter ls r)
 
-after-one : (ls : List Lookup) (l : Lookup) (r : Reading) → after ls (joined l r) ≡ after (ls ++ l ∷ []) r
+after-one : (ls : List Lookup) (l : Lookup) (r : Reading) → readAfter ls (readFirst l r) ≡ readAfter (ls ++ l ∷ []) r
 after-one [] l r = refl
-after-one (k ∷ ls) l r = ap (joined k) (after-one ls l r)
+after-one (k ∷ ls) l r = ap (readFirst k) (after-one ls l r)
 
-after-end : (ls : List Lookup) → after ls (Reads []) ≡ Reads ls
+after-end : (ls : List Lookup) → readAfter ls (Reads []) ≡ Reads ls
 after-end [] = refl
-after-end (k ∷ ls) = ap (joined k) (after-end ls)
+after-end (k ∷ ls) = ap (readFirst k) (after-end ls)
 
-after-stuck : (ls : List Lookup) → after ls Unreadable ≡ Unreadable
+after-stuck : (ls : List Lookup) → readAfter ls Unreadable ≡ Unreadable
 after-stuck [] = refl
-after-stuck (k ∷ ls) = ap (joined k) (after-stuck ls)
+after-stuck (k ∷ ls) = ap (readFirst k) (after-stuck ls)
 
 -- n lookups are read, and the book says them and then what is left from `at` on says
-pub record Going (ws : List ℕ) (n at : ℕ) : Type 0 where
+pub record ReadSoFar (ws : List ℕ) (n at : ℕ) : Type 0 where
   pub read : List Lookup
   pub many : length read ≡ n
   pub place : at ≡ startOf n ws
   pub within : at ≤ length ws
-  pub rest : readLookups mostLookups ws ≡ after read (readLookups (mostLookups - n) (drop at ws))
+  pub rest : readLookups mostLookups ws ≡ readAfter read (readLookups (mostLookups - n) (drop at ws))
 
 module _ (ws : List ℕ) where
-  pub going-none : Going ws 0 0
+  pub going-none : ReadSoFar ws 0 0
   unfolding startOf
   going-none = record { read = []; many = refl; place = refl; within = omega arith; rest = refl }
 
-  module _ (n at : ℕ) (g : Going ws n at) where
-    pub going-more : at < length ws → n < mostLookups → (sizeAt ws at ≡ 0 → ⊥) → Going ws (n + 1) (at + sizeAt ws at)
+  module _ (n at : ℕ) (g : ReadSoFar ws n at) where
+    pub going-more : at < length ws → n < mostLookups → (sizeAt ws at ≡ 0 → ⊥) → ReadSoFar ws (n + 1) (at + sizeAt ws at)
     unfolding startOf
     going-more h k s =
         let x = next ws at h (mostLookups - (n + 1)) (size-some ws at s) in
@@ -171,21 +171,21 @@ module _ (ws : List ℕ) where
   unfolding indexOf readBook
   index-none h e = rw (le-leb (length ws) mostWords h, e)
 
-  pub index-done : length ws ≤ mostWords → (n at : ℕ) (g : Going ws n at) → length ws ≤ at
-      → indexOf ws ≡ record { reads = true; count = n; starts = slots n ws }
+  pub index-done : length ws ≤ mostWords → (n at : ℕ) (g : ReadSoFar ws n at) → length ws ≤ at
+      → indexOf ws ≡ record { reads = true; count = n; starts = startSlots n ws }
   unfolding indexOf readBook
   index-done h n at g l =
       rw (le-leb (length ws) mostWords h, going-done ws n at g l) (ap (λ (k : ℕ). indexFor k) (g .many))
     where
       indexFor : ℕ → Index
-      indexFor k = record { reads = true; count = k; starts = slots k ws }
+      indexFor k = record { reads = true; count = k; starts = startSlots k ws }
 
-  pub slots-none : zeros mostLookups ≡ slots 0 ws
-  unfolding slots
+  pub slots-none : zeros mostLookups ≡ startSlots 0 ws
+  unfolding startSlots
   slots-none = refl
 
-  pub slots-more : (n at : ℕ) → at ≡ startOf n ws → set (slots n ws) n at ≡ slots (n + 1) ws
-  unfolding slots
+  pub slots-more : (n at : ℕ) → at ≡ startOf n ws → set (startSlots n ws) n at ≡ startSlots (n + 1) ws
+  unfolding startSlots
   slots-more n at e = rw (add-one n, e)
 
   reads-by : (r : Reading) → indexed ws r .reads ≡ isRead r

@@ -7,7 +7,7 @@ use borrow.Author.Tests.{le-leb}
 use lib.ListN.{length, length-append}
 use lib.Seq.{take-at, drop-at}
 use Rattle.book.specs.Book.{mostWords, mostLookups, mostIds, mostInput, mostSide, mostRecords, Lookup, Kind1, Kind2, Kind3, Is, Taken, counted, bodyOf, Read, firstOf, Reads, readLookups, readBook}
-use Rattle.book.specs.Encode.{pairsOf, kindOf, propsOf, numbered, contentOf, encode, encodeAll, Within, AllWithin, Legal}
+use Rattle.book.specs.Encode.{pairsOf, kindOf, propsOf, numbered, contentOf, encode, encodeAll, LookupWithin, AllWithin, Legal}
 use Rattle.book.specs.Records.{pairs-length, records-back}
 use Rattle.book.specs.Starts.{reads-nil, reads-cons}
 
@@ -20,7 +20,7 @@ counted-back each most n xs r e h =
 once : (xs : List ℕ) → length xs ≡ 1 * length xs
 once xs = omega arith
 
-body-back : (l : Lookup) → Within l → bodyOf (kindOf l) (propsOf l) (contentOf l) ≡ Is l
+body-back : (l : Lookup) → LookupWithin l → bodyOf (kindOf l) (propsOf l) (contentOf l) ≡ Is l
 unfolding bodyOf
 body-back (Kind1 props from to) h = refl
 body-back (Kind2 props from ids) h = rw (counted-back 1 mostIds (length ids) ids [] (once ids) h)
@@ -36,7 +36,7 @@ body-back (Kind3 props c) h =
       records-back (c .records),
     )
 
-first-back : (l : Lookup) (rest : List ℕ) → Within l → firstOf (encode l ++ rest) ≡ Read l rest
+first-back : (l : Lookup) (rest : List ℕ) → LookupWithin l → firstOf (encode l ++ rest) ≡ Read l rest
 unfolding firstOf encode
 first-back l rest h =
     let n : ℕ = length (contentOf l) in

@@ -5,7 +5,7 @@ ghost use mathlib.Core.Path.{_≡_};
 ghost use Rattle.book.specs.Book.{readBook, isRead};
 ghost use Rattle.book.specs.Places.{indexOf, noIndex};
 
-pub const WORDS: usize = 4096;
+pub const BOOK_WORDS: usize = 4096;
 
 // Whether a book reads: where it doesn't, refusal 11.
 pub fn reads(words: &[u16]) -> bool
@@ -19,7 +19,7 @@ pub fn reads(words: &[u16]) -> bool
 pub fn index_of(words: &[u16]) -> Index
     ensures { λ r. ⌜ r ≡ indexOf (now (words .entry)) ⌝ }
 {
-    if WORDS < words.len() {
+    if BOOK_WORDS < words.len() {
         return nothing();
     }
     let mut starts = [0u16; LOOKUPS];

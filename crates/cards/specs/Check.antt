@@ -17,7 +17,7 @@ use Rattle.matching.specs.Answers.{ligated}
 use Rattle.matching_calls.specs.Calls.{badText, inputFit, inputOf}
 use Rattle.glyph.specs.Write.{withId}
 use Rattle.book.specs.Book.{recordsOf, counted, bodyOf, firstOf, readLookups, readBook, lookupAt}
-use Rattle.run.specs.Repair.{following, gained, lost, grownBy, shrunkBy, repaired}
+use Rattle.run.specs.Repair.{following, withGain, withLoss, grownBy, shrunkBy, repaired}
 use Rattle.run.specs.Run.{triedBy, recordsBy, closed, chainRun}
 use Rattle.run.specs.Deeds.{deedBy}
 use Rattle.run_calls.specs.Calls.{checkedFirst, checkedAll, risesTo}
@@ -35,7 +35,7 @@ wanted c = c .wanted
 pub all-cards : map given cards ≡ map wanted cards
 unfolding every some ranged masksOf bitsBelow wordsOf blank inSet inputMatcher contextMatcher matcherOf skipYes ignorable skipOf ruledOut
     matchOf verdict walk walkFrom takes reached mayJoin baseBefore baseSkips inputBy inputOn ligated limit glyphs glyphsOf illShaped badText
-    inputFit inputOf withId recordsOf counted bodyOf firstOf readLookups readBook lookupAt following gained lost grownBy shrunkBy repaired
+    inputFit inputOf withId recordsOf counted bodyOf firstOf readLookups readBook lookupAt following withGain withLoss grownBy shrunkBy repaired
     deedBy triedBy recordsBy closed chainRun checkedFirst checkedAll risesTo
 all-cards = refl
 

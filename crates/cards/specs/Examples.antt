@@ -9,13 +9,13 @@ use Rattle.glyph.specs.Signs.{glyph}
 use Rattle.verdict.specs.declared.Table.{Table}
 use Rattle.verdict.specs.declared.Table.the-variants.{Gsub, Gpos}
 use Rattle.verdict.specs.Verdict.{equalTo}
-use Rattle.matching.specs.declared.Lookup.{Lookup}
+use Rattle.matching.specs.declared.Terms.{Terms}
 use Rattle.matching.specs.Take.{ahead, behind}
 use Rattle.matching.specs.Matchers.{inputOn, aheadOn, backOn}
 use Rattle.matching.specs.Answers.{inputTold, contextTold, inputReply, contextReply}
 use Rattle.cards.specs.Card.{Card}
 
-abbrev lookup : Table → ℕ → Lookup
+abbrev lookup : Table → ℕ → Terms
 lookup table props = record { settings = record { table = table; zwnj = false; zwj = false; syllables = false }; mask = 1; props = props }
 
 abbrev spelled : Reply → List (List ℕ)
@@ -38,14 +38,14 @@ abbrev backtrack : List Glyph → List ℕ → List (List ℕ)
 backtrack row values = spelled (contextReply (contextTold behind (length row) (backOn (lookup Gsub 0) [] equalTo row 0 values)))
 
 -- the glyph at the cursor and then one with the id 8, after `done`, by a lookup that ignores ligatures
-abbrev after : Table → List Glyph → Glyph → Glyph → List (List ℕ)
-after table done first second =
+abbrev answersAfter : Table → List Glyph → Glyph → Glyph → List (List ℕ)
+answersAfter table done first second =
     let text = first ∷ second ∷ [] in
     spelled (inputReply (inputTold text 0 (inputOn (lookup table 4) [] equalTo done text 0 (8 ∷ []))))
 
 -- marks 7 and then 8, of these components of ligature 1
 abbrev joined : Table → List Glyph → ℕ → ℕ → List (List ℕ)
-joined table done first second = after table done (mark 7 1 first) (mark 8 1 second)
+joined table done first second = answersAfter table done (mark 7 1 first) (mark 8 1 second)
 
 abbrev says : ℕ → List ℕ → List (List ℕ)
 says number values = (number ∷ []) ∷ values ∷ []
@@ -76,9 +76,9 @@ examples =
     record { given = joined Gsub (ligature 1 ∷ letter 6 ∷ []) 1 2; wanted = says 5 [] } ∷
     record { given = joined Gpos (ligature 1 ∷ []) 1 2; wanted = says 5 [] } ∷
     -- after a first glyph that isn't attached, an attached one only with the first's id; with component 0, or no id, any
-    record { given = after Gsub [] (letter 7) (mark 8 1 2); wanted = says 5 [] } ∷
-    record { given = after Gsub [] (mark 7 1 0) (mark 8 1 2); wanted = both } ∷
-    record { given = after Gsub [] (mark 7 1 0) (mark 8 2 1); wanted = says 5 [] } ∷
-    record { given = after Gsub [] (letter 7) (mark 8 1 0); wanted = both } ∷
-    record { given = after Gsub [] (mark 7 1 0) (mark 8 0 2); wanted = both } ∷
+    record { given = answersAfter Gsub [] (letter 7) (mark 8 1 2); wanted = says 5 [] } ∷
+    record { given = answersAfter Gsub [] (mark 7 1 0) (mark 8 1 2); wanted = both } ∷
+    record { given = answersAfter Gsub [] (mark 7 1 0) (mark 8 2 1); wanted = says 5 [] } ∷
+    record { given = answersAfter Gsub [] (letter 7) (mark 8 1 0); wanted = both } ∷
+    record { given = answersAfter Gsub [] (mark 7 1 0) (mark 8 0 2); wanted = both } ∷
     []

@@ -6,7 +6,7 @@ use Prim.Native.Nat.{ℕ}
 use Rattle.glyph.specs.Reply.{Reply}
 use Rattle.verdict.specs.declared.Table.the-variants.{Gsub}
 use Rattle.verdict.specs.Verdict.{equalTo}
-use Rattle.matching.specs.declared.Lookup.{Lookup}
+use Rattle.matching.specs.declared.Terms.{Terms}
 use Rattle.matching.specs.Answers.{inputReply}
 use Rattle.matching_calls.specs.Calls.{inputOf}
 use Rattle.cards.specs.Card.{Card}
@@ -23,7 +23,7 @@ abbrev joiner : ℕ → List ℕ
 joiner id = sign id 3 0
 
 -- GSUB, settings off, mask 1
-abbrev lookup : ℕ → Lookup
+abbrev lookup : ℕ → Terms
 lookup props = record { settings = record { table = Gsub; zwnj = false; zwj = false; syllables = false }; mask = 1; props = props }
 
 abbrev spelled : Reply → List (List ℕ)

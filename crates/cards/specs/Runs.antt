@@ -11,7 +11,7 @@ use Rattle.matching.specs.declared.InputMatch.{InputMatch}
 use Rattle.matching.specs.Answers.{slotted}
 use Rattle.run.specs.Run.{Stage}
 use Rattle.run_calls.specs.declared.Checked.{Checked}
-use Rattle.run_calls.specs.Calls.{Handed, checkedAll, runSays, endingNumber, refusalNumber}
+use Rattle.run_calls.specs.Calls.{Handed, checkedAll, runSays, endingNumber, runRefusalNumber}
 use Rattle.cards.specs.Card.{Card}
 use Rattle.cards.specs.Signs.{letter}
 
@@ -33,7 +33,7 @@ abbrev turning : List ℕ → List ℕ
 turning ids = 2 ∷ 0 ∷ 0 ∷ (2 + length ids) ∷ 2 ∷ length ids ∷ ids
 
 abbrev shows : Checked → Stage → List (List ℕ)
-shows (Checked.Refused why) v = (refusalNumber why ∷ []) ∷ []
+shows (Checked.Refused why) v = (runRefusalNumber why ∷ []) ∷ []
 shows Checked.Accepted v =
     (endingNumber (v .run .tally .ending) ∷ []) ∷ map (λ (g : Glyph). g .id) (v .run .text .glyphs) ∷ v .level .positions ∷ (v .run .text .cursor ∷ v .run .tally .spent ∷ []) ∷ []
 

@@ -1,8 +1,8 @@
 // The bench cards that are run and not shown from the definitions. Each line is a card, what was asked, and the answer's number and values.
 use matching::InputAnswer;
 use matching::InputMatch;
-use matching::Lookup;
 use matching::Refusal;
+use matching::Terms;
 use verdict::Settings;
 use verdict::Table;
 use verdict::Test;
@@ -39,7 +39,7 @@ fn on(row: &[u32], values: &[u32]) -> InputMatch {
         zwj: false,
         syllables: false,
     };
-    let lookup = Lookup {
+    let lookup = Terms {
         settings,
         mask: 1,
         props: 0,

@@ -7,5 +7,5 @@ use Rattle.allowance.specs.declared.Budget.{Budget}
 abbrev pub budgetOf : List ℕ → Budget
 budgetOf left = record { work = getD left 0 0; bytes = getD left 1 0 }
 
-abbrev pub leftOf : Budget → List ℕ
-leftOf b = b .work ∷ b .bytes ∷ []
+abbrev pub budgetWords : Budget → List ℕ
+budgetWords b = b .work ∷ b .bytes ∷ []

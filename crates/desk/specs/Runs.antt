@@ -2,7 +2,7 @@
 use Rattle.matching.specs.declared.InputMatch.{InputMatch}
 use Rattle.run.specs.declared.Given.{Given}
 use Rattle.run_calls.specs.declared.RunAnswer.{RunAnswer}
-use Rattle.desk_numbers.specs.Numbers.{answerFrom, numberOf}
+use Rattle.desk_numbers.specs.Numbers.{answerFrom, runNumber}
 use Rattle.desk.specs.declared.matches.Matched.{Matched}
 use Rattle.desk.specs.declared.nestings.Switches.{Switches}
 use Rattle.desk.specs.declared.nestings.Ran.{Ran}
@@ -15,7 +15,7 @@ givenFrom s = record { zwnj = s .zwnj; zwj = s .zwj; syllables = s .syllables; m
 
 abbrev pub ranOf : RunAnswer → Ran
 ranOf a = record {
-  number = numberOf (a .ending);
+  number = runNumber (a .ending);
   spent = a .spent;
   d = a .d;
   idx = a .idx;

@@ -15,12 +15,12 @@ use Rattle.desk.specs.declared.walks.Sought.{Sought}
 use Rattle.desk.specs.declared.walks.Said.{Said}
 use Rattle.desk.specs.declared.walks.Step.{Step}
 
-abbrev pub settingsOf : Lookup → Settings
-settingsOf l = record { table = tableOf (l .gpos); zwnj = l .zwnj; zwj = l .zwj; syllables = l .syllables }
+abbrev pub settingsFor : Lookup → Settings
+settingsFor l = record { table = tableOf (l .gpos); zwnj = l .zwnj; zwj = l .zwj; syllables = l .syllables }
 
 -- the input matcher of a lookup, or its context matcher
 abbrev pub matcherFor : Lookup → Bool → Matcher
-matcherFor l context = matcherOf (settingsOf l) context (l .mask) (l .props)
+matcherFor l context = matcherOf (settingsFor l) context (l .mask) (l .props)
 
 abbrev pub signOf : Sought → Sign
 signOf s = record { test = testOf (s .test); value = s .value }

@@ -1,13 +1,13 @@
 // Allowances. The caller keeps two numbers: what is left of the work, and of the bytes.
 use allowance::Budget;
 ghost use mathlib.Core.Path.{_≡_};
-ghost use Rattle.allowance.specs.Allowance.{opening, opened, worked, allocated};
+ghost use Rattle.allowance.specs.Allowance.{opening, budgetWith, worked, allocated};
 ghost use Rattle.desk_numbers.specs.Numbers.{wasTaken};
-ghost use Rattle.desk.specs.Allowances.{budgetOf, leftOf};
+ghost use Rattle.desk.specs.Allowances.{budgetOf, budgetWords};
 
 #[no_mangle]
 pub extern "C" fn cb_budget_for_table_bytes(left: &mut [u64; 2], bytes: u64)
-    ensures { λ _. ⌜ now (left .exit) ≡ leftOf (opened (opening bytes) (opening bytes)) ⌝ }
+    ensures { λ _. ⌜ now (left .exit) ≡ budgetWords (budgetWith (opening bytes) (opening bytes)) ⌝ }
 {
     let b = Budget::for_table_bytes(bytes);
     *left = [b.work, b.bytes];
@@ -15,7 +15,7 @@ pub extern "C" fn cb_budget_for_table_bytes(left: &mut [u64; 2], bytes: u64)
 
 #[no_mangle]
 pub extern "C" fn cb_budget_new(left: &mut [u64; 2], work: u64, bytes: u64)
-    ensures { λ _. ⌜ now (left .exit) ≡ leftOf (opened work bytes) ⌝ }
+    ensures { λ _. ⌜ now (left .exit) ≡ budgetWords (budgetWith work bytes) ⌝ }
 {
     let b = Budget::new(work, bytes);
     *left = [b.work, b.bytes];
@@ -23,7 +23,7 @@ pub extern "C" fn cb_budget_new(left: &mut [u64; 2], work: u64, bytes: u64)
 
 #[no_mangle]
 pub extern "C" fn cb_budget_work(left: &mut [u64; 2], visits: u64) -> bool
-    ensures { λ r. ⌜ (r ≡ wasTaken (worked visits (budgetOf (now (left .entry))) .charge)) × (now (left .exit) ≡ leftOf (worked visits (budgetOf (now (left .entry))) .left)) ⌝ }
+    ensures { λ r. ⌜ (r ≡ wasTaken (worked visits (budgetOf (now (left .entry))) .charge)) × (now (left .exit) ≡ budgetWords (worked visits (budgetOf (now (left .entry))) .left)) ⌝ }
 {
     let c = Budget::new(left[0], left[1]).work(visits);
     let b = c.left;
@@ -34,7 +34,7 @@ pub extern "C" fn cb_budget_work(left: &mut [u64; 2], visits: u64) -> bool
 
 #[no_mangle]
 pub extern "C" fn cb_budget_alloc(left: &mut [u64; 2], count: u64, size: u64) -> bool
-    ensures { λ r. ⌜ (r ≡ wasTaken (allocated count size (budgetOf (now (left .entry))) .charge)) × (now (left .exit) ≡ leftOf (allocated count size (budgetOf (now (left .entry))) .left)) ⌝ }
+    ensures { λ r. ⌜ (r ≡ wasTaken (allocated count size (budgetOf (now (left .entry))) .charge)) × (now (left .exit) ≡ budgetWords (allocated count size (budgetOf (now (left .entry))) .left)) ⌝ }
 {
     let c = Budget::new(left[0], left[1]).alloc(count, size);
     let b = c.left;

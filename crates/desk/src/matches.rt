@@ -9,7 +9,7 @@ ghost use mathlib.Core.List.{[]};
 ghost use Rattle.verdict.specs.Verdict.{valueBy};
 ghost use Rattle.matching_calls.specs.Calls.{inputOf, aheadOf, backOf};
 ghost use Rattle.desk_numbers.specs.Numbers.{testOf};
-ghost use Rattle.desk.specs.Matches.{lookupOf, toldOf, matchedOf, placedOf};
+ghost use Rattle.desk.specs.Matches.{termsFor, matchedWith, matchedOf, placedOf};
 
 // 0 with end, total, count and positions; 4 with the extent in `end`; or a refusal's number. Unused slots are 0.
 #[repr(C)]
@@ -40,7 +40,7 @@ pub extern "C" fn cb_match_input(
     test: u8,
     values: &[u32],
 ) -> Matched
-    ensures { λ r. ⌜ r ≡ matchedOf (inputOf (now (done .entry)) d (now (coming .entry)) len idx (lookupOf lookup) (now (sets .entry)) (valueBy (testOf test) []) (now (values .entry))) ⌝ }
+    ensures { λ r. ⌜ r ≡ matchedOf (inputOf (now (done .entry)) d (now (coming .entry)) len idx (termsFor lookup) (now (sets .entry)) (valueBy (testOf test) []) (now (values .entry))) ⌝ }
 {
     input_told(matching_calls::match_input(
         done,
@@ -68,7 +68,7 @@ pub extern "C" fn cb_match_lookahead(
     test: u8,
     values: &[u32],
 ) -> Placed
-    ensures { λ r. ⌜ r ≡ placedOf (aheadOf (now (done .entry)) d (now (coming .entry)) len idx start (lookupOf lookup) (now (sets .entry)) (valueBy (testOf test) []) (now (values .entry))) ⌝ }
+    ensures { λ r. ⌜ r ≡ placedOf (aheadOf (now (done .entry)) d (now (coming .entry)) len idx start (termsFor lookup) (now (sets .entry)) (valueBy (testOf test) []) (now (values .entry))) ⌝ }
 {
     context_told(matching_calls::match_lookahead(
         done,
@@ -96,7 +96,7 @@ pub extern "C" fn cb_match_backtrack<'a>(
     test: u8,
     values: &[u32],
 ) -> Placed
-    ensures { λ r. ⌜ r ≡ placedOf (backOf (now (done .entry)) d (now (coming .entry)) len idx (lookupOf lookup) (now (sets .entry)) (valueBy (testOf test) []) (now (values .entry))) ⌝ }
+    ensures { λ r. ⌜ r ≡ placedOf (backOf (now (done .entry)) d (now (coming .entry)) len idx (termsFor lookup) (now (sets .entry)) (valueBy (testOf test) []) (now (values .entry))) ⌝ }
 {
     context_told(matching_calls::match_backtrack(
         done,
@@ -111,11 +111,11 @@ pub extern "C" fn cb_match_backtrack<'a>(
     ))
 }
 
-fn asked(l: Lookup) -> matching::Lookup
-    ensures { λ r. ⌜ r ≡ lookupOf l ⌝ }
+fn asked(l: Lookup) -> matching::Terms
+    ensures { λ r. ⌜ r ≡ termsFor l ⌝ }
 {
     let settings = walks::settings(l);
-    matching::Lookup {
+    matching::Terms {
         settings,
         mask: l.mask,
         props: l.props,
@@ -143,7 +143,7 @@ fn input_told(m: InputMatch) -> Matched
 }
 
 fn told(number: u8, end: usize, total: u16, count: usize, positions: [u16; 64]) -> Matched
-    ensures { λ r. ⌜ r ≡ toldOf number end total count positions ⌝ }
+    ensures { λ r. ⌜ r ≡ matchedWith number end total count positions ⌝ }
 {
     Matched {
         number,

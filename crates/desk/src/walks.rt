@@ -14,7 +14,7 @@ ghost use mathlib.Core.List.{[]};
 ghost use Rattle.verdict.specs.Verdict.{valueOf};
 ghost use Rattle.verdict_ask.specs.Ask.{askSkip, askMatch, askVerdict, skipReply, matchReply, verdictReply};
 ghost use Rattle.walk.specs.Calls.{forwardOf, backwardOf};
-ghost use Rattle.desk.specs.Walks.{settingsOf, matcherFor, signOf, saidOf, stepOf};
+ghost use Rattle.desk.specs.Walks.{settingsFor, matcherFor, signOf, saidOf, stepOf};
 
 // A lookup's table and settings, its mask and its props.
 #[repr(C)]
@@ -154,7 +154,7 @@ fn matcher(l: Lookup, context: bool) -> Matcher
 }
 
 pub fn settings(l: Lookup) -> Settings
-    ensures { λ r. ⌜ r ≡ settingsOf l ⌝ }
+    ensures { λ r. ⌜ r ≡ settingsFor l ⌝ }
 {
     let t = desk_numbers::walks::table(l.gpos);
     Settings {

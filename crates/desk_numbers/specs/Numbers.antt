@@ -10,7 +10,7 @@ use Rattle.verdict.specs.declared.Test.{Test}
 use Rattle.verdict.specs.declared.Test.the-variants.{Equal, Any, Nothing}
 use Rattle.matching.specs.declared.InputAnswer.{InputAnswer}
 use Rattle.run_calls.specs.declared.RunEnding.{RunEnding}
-use Rattle.run_calls.specs.Calls.{endingNumber, refusalNumber}
+use Rattle.run_calls.specs.Calls.{endingNumber, runRefusalNumber}
 
 abbrev pub wasTaken : Charge → Bool
 wasTaken Taken = true
@@ -27,6 +27,6 @@ testOf n = cond (eqb n 0) Equal (cond (eqb n 1) Any Nothing)
 abbrev pub answerFrom : ℕ → ℕ → ℕ → InputAnswer
 answerFrom number end total = cond (eqb number 0) (InputAnswer.Matched end total) InputAnswer.Ligature
 
-abbrev pub numberOf : RunEnding → ℕ
-numberOf (RunEnding.Ended e) = endingNumber e
-numberOf (RunEnding.Refused why) = refusalNumber why
+abbrev pub runNumber : RunEnding → ℕ
+runNumber (RunEnding.Ended e) = endingNumber e
+runNumber (RunEnding.Refused why) = runRefusalNumber why

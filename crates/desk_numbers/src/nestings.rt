@@ -1,11 +1,11 @@
 // The match that a run is handed, and how a run ends.
 use matching::InputAnswer;
 use run::Ending;
-use run_calls::Refusal;
 use run_calls::RunEnding;
+use run_calls::RunRefusal;
 ghost use mathlib.Core.Path.{_≡_};
-ghost use Rattle.run_calls.specs.Calls.{endingNumber, refusalNumber};
-ghost use Rattle.desk_numbers.specs.Numbers.{answerFrom, numberOf};
+ghost use Rattle.run_calls.specs.Calls.{endingNumber, runRefusalNumber};
+ghost use Rattle.desk_numbers.specs.Numbers.{answerFrom, runNumber};
 
 pub fn success(number: u8, end: usize, total: u16) -> InputAnswer
     ensures { λ r. ⌜ r ≡ answerFrom number end total ⌝ }
@@ -18,7 +18,7 @@ pub fn success(number: u8, end: usize, total: u16) -> InputAnswer
 }
 
 pub fn number_of(e: RunEnding) -> u8
-    ensures { λ r. ⌜ r ≡ numberOf e ⌝ }
+    ensures { λ r. ⌜ r ≡ runNumber e ⌝ }
 {
     match e {
         RunEnding::Ended(ending) => ended(ending),
@@ -37,14 +37,14 @@ fn ended(e: Ending) -> u8
     }
 }
 
-fn refused(why: Refusal) -> u8
-    ensures { λ r. ⌜ r ≡ refusalNumber why ⌝ }
+fn refused(why: RunRefusal) -> u8
+    ensures { λ r. ⌜ r ≡ runRefusalNumber why ⌝ }
 {
     match why {
-        Refusal::Shape => 1,
-        Refusal::Cursor => 2,
-        Refusal::Limits => 12,
-        Refusal::Book => 11,
-        Refusal::Match => 7,
+        RunRefusal::Shape => 1,
+        RunRefusal::Cursor => 2,
+        RunRefusal::Limits => 12,
+        RunRefusal::Book => 11,
+        RunRefusal::Match => 7,
     }
 }

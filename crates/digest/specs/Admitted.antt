@@ -14,19 +14,19 @@ use borrow.Author.Tests.{eq-eqb, le-leb, lt-leb, leb-true, leb-false}
 use Rattle.bits.specs.Bits.{bit, every, some}
 use Rattle.bits.specs.Laws.{and-left, and-right, and-both, or-left, or-right, every-at, every-so, some-at}
 use Rattle.mask.specs.Mask.{round}
-use Rattle.digest.specs.Digest.{Bits, shift, place, joined, added, addedAll, wide, ranged, mayHave, mayIntersect}
+use Rattle.digest.specs.Digest.{Bits, shift, place, united, added, addedAll, wide, ranged, mayHave, mayIntersect}
 
 -- every bit of the first is a bit of the second
-abbrev pub Within : Bits → Bits → Type 0
-Within f h = (i k : ℕ) → f i k ≡ true → h i k ≡ true
+abbrev pub BitsWithin : Bits → Bits → Type 0
+BitsWithin f h = (i k : ℕ) → f i k ≡ true → h i k ≡ true
 
 -- more bits admit no fewer glyphs
-pub admits-more : (f h : Bits) (g : ℕ) → Within f h → mayHave f g ≡ true → mayHave h g ≡ true
+pub admits-more : (f h : Bits) (g : ℕ) → BitsWithin f h → mayHave f g ≡ true → mayHave h g ≡ true
 admits-more f h g w e =
     every-so (λ i. h i (place i g)) 3 (λ i l. w i (place i g) (every-at (λ i. f i (place i g)) 3 i e l))
 
 module _ (f : Bits) where
-  pub added-keeps : (g : ℕ) → Within f (added g f)
+  pub added-keeps : (g : ℕ) → BitsWithin f (added g f)
   added-keeps g i k e = or-left (f i k) (eqb k (place i g)) e
 
   -- by add
@@ -34,17 +34,17 @@ module _ (f : Bits) where
   added-admits g = every-so (λ i. added g f i (place i g)) 3 (λ i l. or-right (f i (place i g)) (eqb (place i g) (place i g)) (eq-eqb (place i g) (place i g) refl))
 
   -- by union, from either side
-  pub union-admits-left : (h : Bits) (g : ℕ) → mayHave f g ≡ true → mayHave (joined f h) g ≡ true
-  union-admits-left h g e = admits-more f (joined f h) g (λ i k t. or-left (f i k) (h i k) t) e
+  pub union-admits-left : (h : Bits) (g : ℕ) → mayHave f g ≡ true → mayHave (united f h) g ≡ true
+  union-admits-left h g e = admits-more f (united f h) g (λ i k t. or-left (f i k) (h i k) t) e
 
-  pub union-admits-right : (h : Bits) (g : ℕ) → mayHave h g ≡ true → mayHave (joined f h) g ≡ true
-  union-admits-right h g e = admits-more h (joined f h) g (λ i k t. or-right (f i k) (h i k) t) e
+  pub union-admits-right : (h : Bits) (g : ℕ) → mayHave h g ≡ true → mayHave (united f h) g ≡ true
+  union-admits-right h g e = admits-more h (united f h) g (λ i k t. or-right (f i k) (h i k) t) e
 
-  pub ranged-keeps : (a b : ℕ) → Within f (ranged a b f)
+  pub ranged-keeps : (a b : ℕ) → BitsWithin f (ranged a b f)
   unfolding ranged
   ranged-keeps a b i k e = or-left (f i k) (wide i a b || round (place i a) (place i b) k) e
 
-pub addedAll-keeps : (gs : List ℕ) (f : Bits) → Within f (addedAll gs f)
+pub addedAll-keeps : (gs : List ℕ) (f : Bits) → BitsWithin f (addedAll gs f)
 unfolding addedAll
 addedAll-keeps [] f i k e = e
 addedAll-keeps (g ∷ gs) f i k e = addedAll-keeps gs (added g f) i k (added-keeps f g i k e)

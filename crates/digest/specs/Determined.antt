@@ -11,11 +11,11 @@ use Rattle.digest.specs.declared.SetDigest.{SetDigest}
 use Rattle.digest.specs.Digest.{Bits, Says}
 
 -- what the type holds: three masks of 64 bits
-pub record Whole (d : SetDigest) : Type 0 where
+pub record ThreeMasks (d : SetDigest) : Type 0 where
   pub three : length (d .masks) ≡ 3
   pub fits : (i : ℕ) → i < 3 → getD (d .masks) i 0 < 2 ^ 64
 
-pub one-digest : (d e : SetDigest) (f : Bits) → Whole d → Whole e → Says d f → Says e f → d ≡ e
+pub one-digest : (d e : SetDigest) (f : Bits) → ThreeMasks d → ThreeMasks e → Says d f → Says e f → d ≡ e
 one-digest d e f u v s t =
     ap (λ (ms : List ℕ). record { masks = ms })
     (ext-getD 0 (d .masks) (e .masks) (u .three ∙ sym (v .three))

@@ -28,14 +28,14 @@ shift i = getD (4 ∷ 0 ∷ 6 ∷ []) i 0
 abbrev pub place : ℕ → ℕ → ℕ
 place i g = g / 2 ^ shift i % 64
 
-abbrev pub none : Bits
-none i k = false
+abbrev pub noBits : Bits
+noBits i k = false
 
-abbrev pub all : Bits
-all i k = true
+abbrev pub allBits : Bits
+allBits i k = true
 
-abbrev pub joined : Bits → Bits → Bits
-joined f h i k = f i k || h i k
+abbrev pub united : Bits → Bits → Bits
+united f h i k = f i k || h i k
 
 -- the glyph's bit in each mask is set too
 abbrev pub added : ℕ → Bits → Bits
@@ -53,12 +53,12 @@ wide i a b = leb 63 ((b / 2 ^ shift i + 2 ^ 64 - a / 2 ^ shift i) % 2 ^ 64)
 unfoldable pub ranged : ℕ → ℕ → Bits → Bits
 ranged a b f i k = f i k || (wide i a b || round (place i a) (place i b) k)
 
-abbrev pub full : Bits → Bool
-full f = every 3 (λ i. every 64 (f i))
+abbrev pub everyBit : Bits → Bool
+everyBit f = every 3 (λ i. every 64 (f i))
 
 -- what adding a range answers: false if all masks were full before, or if it is wide at all three shifts
 abbrev pub rangeYes : ℕ → ℕ → Bits → Bool
-rangeYes a b f = not (full f) && not (every 3 (λ i. wide i a b))
+rangeYes a b f = not (everyBit f) && not (every 3 (λ i. wide i a b))
 
 -- the glyph's bit is set in each mask
 abbrev pub mayHave : Bits → ℕ → Bool

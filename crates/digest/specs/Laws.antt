@@ -10,10 +10,10 @@ use lib.Seq.{drop-cons}
 use Rattle.digest.specs.Digest.{Bits, place, added, addedAll}
 
 -- the same bits, as far as a digest has them
-abbrev pub Same : Bits → Bits → Type 0
-Same f h = (i k : ℕ) → i < 3 → k < 64 → f i k ≡ h i k
+abbrev pub SameBits : Bits → Bits → Type 0
+SameBits f h = (i k : ℕ) → i < 3 → k < 64 → f i k ≡ h i k
 
-pub added-same : (g : ℕ) (f h : Bits) → Same f h → Same (added g f) (added g h)
+pub added-same : (g : ℕ) (f h : Bits) → SameBits f h → SameBits (added g f) (added g h)
 added-same g f h s i k l m = ap (λ (b : Bool). b || eqb k (place i g)) (s i k l m)
 
 -- a glyph more, and no glyph: what a turn over the list does, and its end
@@ -25,7 +25,7 @@ pub addedAll-end : (gs : List ℕ) (i : ℕ) (f : Bits) → length gs ≤ i → 
 unfolding addedAll
 addedAll-end gs i f h = rw (drop-of-length-le gs {i = i} h)
 
-pub addedAll-same : (gs : List ℕ) (f h : Bits) → Same f h → Same (addedAll gs f) (addedAll gs h)
+pub addedAll-same : (gs : List ℕ) (f h : Bits) → SameBits f h → SameBits (addedAll gs f) (addedAll gs h)
 unfolding addedAll
 addedAll-same [] f h s = s
 addedAll-same (g ∷ gs) f h s = addedAll-same gs (added g f) (added g h) (added-same g f h s)

@@ -4,7 +4,7 @@ ghost use mathlib.Core.Bool.{_||_};
 ghost use Prim.Native.Nat.{ℕ, _/_, _^_, _<_};
 ghost use Rattle.bits.specs.Bits.{bit};
 ghost use Rattle.mask.specs.Mask.{round};
-ghost use Rattle.digest.specs.Digest.{Says, bitsOf, shift, place, wide, none, all, joined, added, addedAll, ranged, full, rangeYes, mayHave, mayIntersect};
+ghost use Rattle.digest.specs.Digest.{Says, bitsOf, shift, place, wide, noBits, allBits, united, added, addedAll, ranged, everyBit, rangeYes, mayHave, mayIntersect};
 
 const SHIFTS: [u32; 3] = [4, 0, 6];
 
@@ -20,13 +20,13 @@ pub struct Ranged {
 
 impl SetDigest {
     pub fn new() -> Self
-        ensures { λ r. ⌜ Says r none ⌝ }
+        ensures { λ r. ⌜ Says r noBits ⌝ }
     {
         SetDigest { masks: [0; 3] }
     }
 
     pub fn full() -> Self
-        ensures { λ r. ⌜ Says r all ⌝ }
+        ensures { λ r. ⌜ Says r allBits ⌝ }
     {
         SetDigest {
             masks: [mask::ALL; 3],
@@ -34,13 +34,13 @@ impl SetDigest {
     }
 
     pub fn clear(self) -> Self
-        ensures { λ r. ⌜ Says r none ⌝ }
+        ensures { λ r. ⌜ Says r noBits ⌝ }
     {
         SetDigest::new()
     }
 
     pub fn union(self, other: SetDigest) -> Self
-        ensures { λ r. ⌜ Says r (joined (bitsOf self) (bitsOf other)) ⌝ }
+        ensures { λ r. ⌜ Says r (united (bitsOf self) (bitsOf other)) ⌝ }
     {
         let old = self.masks;
         let others = other.masks;
@@ -130,7 +130,7 @@ impl SetDigest {
 
     // Whether all three masks are full.
     fn is_full(self) -> bool
-        ensures { λ r. ⌜ r ≡ full (bitsOf self) ⌝ }
+        ensures { λ r. ⌜ r ≡ everyBit (bitsOf self) ⌝ }
     {
         let masks = self.masks;
         let mut i = 0;

@@ -14,7 +14,7 @@ use libc::STDIN_FILENO;
 use ligature::Base;
 use ligature::Ligbase;
 use matching::InputAnswer;
-use matching::Lookup;
+use matching::Terms;
 use tape_frame::Decoded;
 use tape_frame::Head;
 use verdict::Matcher;
@@ -185,7 +185,7 @@ fn tell_rows_of(
     before: &[u32],
     text: &[u32],
     idx: usize,
-    lookup: Lookup,
+    lookup: Terms,
     values: &[u32],
 ) {
     let settings = lookup.settings;
@@ -201,7 +201,7 @@ fn tell_match(
     before: &[u32],
     text: &[u32],
     idx: usize,
-    lookup: Lookup,
+    lookup: Terms,
     values: &[u32],
 ) {
     let sets = [0u16; 0];
@@ -239,7 +239,7 @@ fn tell_frame(
     let d = h.done;
     let c = h.coming;
     let settings = h.settings;
-    let lookup = Lookup {
+    let lookup = Terms {
         settings,
         mask: h.mask,
         props: h.props,

@@ -13,7 +13,7 @@ use Rattle.bits.specs.Bits.{every}
 use Rattle.bits.specs.Laws.{every-at}
 use Rattle.tape_frame.specs.Digits.{digit, isDigit, spells}
 use Rattle.tape_frame.specs.DigitLaws.{spells-odd}
-use Rattle.tape_frame.specs.Frame.{none, frameOf, mostDigits}
+use Rattle.tape_frame.specs.Frame.{notFrame, frameOf, mostDigits}
 use Rattle.tape_frame.specs.FrameLaws.{long-none}
 use Rattle.explain_line.specs.declared.LineFault.{LineFault}
 use Rattle.explain_line.specs.declared.LineFault.the-variants.{TooLong, NotDigit, Odd, OtherFault}
@@ -58,12 +58,12 @@ digit-ranges b h = same (inRanges b) (isDigit b) (every-at (λ x. Bool·beq (inR
 
 -- what a fault says of a line
 abbrev pub FaultSays : List ℕ → LineFault → Type 0
-FaultSays line TooLong = (mostDigits < length line) × (frameOf line ≡ none)
-FaultSays line (NotDigit i) = (i < length line) × (isDigit (getD line i 0) ≡ false) × (frameOf line ≡ none)
-FaultSays line Odd = (length line % 2 ≡ 0 → ⊥) × (frameOf line ≡ none)
+FaultSays line TooLong = (mostDigits < length line) × (frameOf line ≡ notFrame)
+FaultSays line (NotDigit i) = (i < length line) × (isDigit (getD line i 0) ≡ false) × (frameOf line ≡ notFrame)
+FaultSays line Odd = (length line % 2 ≡ 0 → ⊥) × (frameOf line ≡ notFrame)
 FaultSays line OtherFault = (length line % 2 ≡ 0) × ((i : ℕ) → i < length line → isDigit (getD line i 0) ≡ true)
 
-unspelled : (line : List ℕ) → spells line ≡ false → frameOf line ≡ none
+unspelled : (line : List ℕ) → spells line ≡ false → frameOf line ≡ notFrame
 unfolding frameOf
 unspelled line e = rw e
 

@@ -12,9 +12,9 @@ use lib.ListN.{length, getD}
 -- ---- tests
 
 -- each a test and the number that it answers with
-unfoldable pub firstOf : List (Bool × ℕ) → Option ℕ
-firstOf [] = none
-firstOf (t ∷ ts) = cond (t .0) (some (t .1)) (firstOf ts)
+unfoldable pub firstAnswer : List (Bool × ℕ) → Option ℕ
+firstAnswer [] = none
+firstAnswer (t ∷ ts) = cond (t .0) (some (t .1)) (firstAnswer ts)
 
 -- the test i of a list
 abbrev pub testAt : List (Bool × ℕ) → ℕ → Bool × ℕ
@@ -31,8 +31,8 @@ pub record FirstHolds (ts : List (Bool × ℕ)) (n : ℕ) : Type 0 where
 abbrev pub NoneHolds : List (Bool × ℕ) → Type 0
 NoneHolds ts = (i : ℕ) → i < length ts → testAt ts i .0 ≡ false
 
-first-by : (ts : List (Bool × ℕ)) (n : ℕ) → firstOf ts ≡ some n → FirstHolds ts n
-unfolding firstOf
+first-by : (ts : List (Bool × ℕ)) (n : ℕ) → firstAnswer ts ≡ some n → FirstHolds ts n
+unfolding firstAnswer
 first-by [] n e = absurd (Option·none-ne-some n e)
 first-by ((true, k) ∷ ts) n e = record { place = 0; inside = omega arith; holds = ap (λ (m : ℕ). (true, m)) (Option·some-inj .0 e); before = λ i h. absurd (omega arith) }
 first-by ((false, k) ∷ ts) n e =
@@ -44,35 +44,35 @@ first-by ((false, k) ∷ ts) n e =
     later f zero h = refl
     later f (suc i) h = f .before i (omega arith)
 
-by-first : (ts : List (Bool × ℕ)) (n i : ℕ) → i < length ts → testAt ts i ≡ (true, n) → ((j : ℕ) → j < i → testAt ts j .0 ≡ false) → firstOf ts ≡ some n
-unfolding firstOf
+by-first : (ts : List (Bool × ℕ)) (n i : ℕ) → i < length ts → testAt ts i ≡ (true, n) → ((j : ℕ) → j < i → testAt ts j .0 ≡ false) → firstAnswer ts ≡ some n
+unfolding firstAnswer
 by-first [] n i h e b = absurd (omega arith)
-by-first (t ∷ ts) n zero h e b = ap (λ (u : Bool × ℕ). cond (u .0) (some (u .1)) (firstOf ts)) e
+by-first (t ∷ ts) n zero h e b = ap (λ (u : Bool × ℕ). cond (u .0) (some (u .1)) (firstAnswer ts)) e
 by-first (t ∷ ts) n (suc i) h e b =
-    ap (λ (x : Bool). cond x (some (t .1)) (firstOf ts)) (b 0 (omega arith)) ∙ by-first ts n i (omega arith) e (λ j k. b (suc j) (omega arith))
+    ap (λ (x : Bool). cond x (some (t .1)) (firstAnswer ts)) (b 0 (omega arith)) ∙ by-first ts n i (omega arith) e (λ j k. b (suc j) (omega arith))
 
 -- a number is answered exactly when its test is the first that holds
-pub first-exactly : (ts : List (Bool × ℕ)) (n : ℕ) → (firstOf ts ≡ some n) ↔ FirstHolds ts n
+pub first-exactly : (ts : List (Bool × ℕ)) (n : ℕ) → (firstAnswer ts ≡ some n) ↔ FirstHolds ts n
 first-exactly ts n = (first-by ts n, λ f. by-first ts n (f .place) (f .inside) (f .holds) (f .before))
 
 -- there is no second
 pub first-alone : (ts : List (Bool × ℕ)) (n m : ℕ) → FirstHolds ts n → FirstHolds ts m → n ≡ m
 first-alone ts n m f g = Option·some-inj .0 (sym (first-exactly ts n .1 f) ∙ first-exactly ts m .1 g)
 
-none-by : (ts : List (Bool × ℕ)) → firstOf ts ≡ none → NoneHolds ts
-unfolding firstOf
+none-by : (ts : List (Bool × ℕ)) → firstAnswer ts ≡ none → NoneHolds ts
+unfolding firstAnswer
 none-by [] e i h = absurd (omega arith)
 none-by ((true, k) ∷ ts) e i h = absurd (Option·some-ne-none k e)
 none-by ((false, k) ∷ ts) e zero h = refl
 none-by ((false, k) ∷ ts) e (suc i) h = none-by ts e i (omega arith)
 
-by-none : (ts : List (Bool × ℕ)) → NoneHolds ts → firstOf ts ≡ none
-unfolding firstOf
+by-none : (ts : List (Bool × ℕ)) → NoneHolds ts → firstAnswer ts ≡ none
+unfolding firstAnswer
 by-none [] n = refl
-by-none (t ∷ ts) n = ap (λ (x : Bool). cond x (some (t .1)) (firstOf ts)) (n 0 (omega arith)) ∙ by-none ts (λ i h. n (suc i) (omega arith))
+by-none (t ∷ ts) n = ap (λ (x : Bool). cond x (some (t .1)) (firstAnswer ts)) (n 0 (omega arith)) ∙ by-none ts (λ i h. n (suc i) (omega arith))
 
 -- and none is answered exactly when no test holds
-pub none-exactly : (ts : List (Bool × ℕ)) → (firstOf ts ≡ none) ↔ NoneHolds ts
+pub none-exactly : (ts : List (Bool × ℕ)) → (firstAnswer ts ≡ none) ↔ NoneHolds ts
 none-exactly ts = (none-by ts, by-none ts)
 
 -- ---- lines
@@ -119,16 +119,16 @@ one-less true k rest t r = (λ e. absurd (Option·some-ne-none k e), λ h. absur
 one-less false k rest t r = (λ e. (t .0 refl, r .0 e), λ h. r .1 (h .1))
 
 -- tests that tell their lines answer with the number of the first line that refuses
-pub refused-exactly : (ts : List Tested) (n : ℕ) → (firstOf (testsOf ts) ≡ some n) ↔ RefusedBy n (linesOf ts)
-unfolding firstOf
+pub refused-exactly : (ts : List Tested) (n : ℕ) → (firstAnswer (testsOf ts) ≡ some n) ↔ RefusedBy n (linesOf ts)
+unfolding firstAnswer
 refused-exactly [] n = (λ e. Option·none-ne-some n e, λ z. absurd z)
-refused-exactly (t ∷ ts) n = one-more (t .test) (t .line .number) n (firstOf (testsOf ts)) (t .tells) (refused-exactly ts n)
+refused-exactly (t ∷ ts) n = one-more (t .test) (t .line .number) n (firstAnswer (testsOf ts)) (t .tells) (refused-exactly ts n)
 
 -- and with none exactly when each lets pass
-pub through-exactly : (ts : List Tested) → (firstOf (testsOf ts) ≡ none) ↔ LetThrough (linesOf ts)
-unfolding firstOf
+pub through-exactly : (ts : List Tested) → (firstAnswer (testsOf ts) ≡ none) ↔ LetThrough (linesOf ts)
+unfolding firstAnswer
 through-exactly [] = (λ e. tt, λ u. refl)
-through-exactly (t ∷ ts) = one-less (t .test) (t .line .number) (firstOf (testsOf ts)) (t .tells) (through-exactly ts)
+through-exactly (t ∷ ts) = one-less (t .test) (t .line .number) (firstAnswer (testsOf ts)) (t .tells) (through-exactly ts)
 
 -- no second number
 pub refused-alone : (ts : List Tested) (n m : ℕ) → RefusedBy n (linesOf ts) → RefusedBy m (linesOf ts) → n ≡ m

@@ -87,11 +87,11 @@ isMatched (InputAnswer.Lost extent) = false
 isMatched InputAnswer.Ligature = false
 
 -- the end of a match, else 0
-abbrev pub endOf : InputAnswer → ℕ
-endOf (InputAnswer.Matched end total) = end
-endOf (InputAnswer.Refused why) = 0
-endOf (InputAnswer.Lost extent) = 0
-endOf InputAnswer.Ligature = 0
+abbrev pub matchEnd : InputAnswer → ℕ
+matchEnd (InputAnswer.Matched end total) = end
+matchEnd (InputAnswer.Refused why) = 0
+matchEnd (InputAnswer.Lost extent) = 0
+matchEnd InputAnswer.Ligature = 0
 
 abbrev pub isFound : ContextMatch → Bool
 isFound (ContextMatch.Matched place) = true

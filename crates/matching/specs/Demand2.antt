@@ -24,7 +24,7 @@ Fails behind v p extent = StopsBack v p extent ⊎ RunsOutBack v p extent
 
 -- from p on, the values take the places
 pub data Accepts {X : Type 0} (way : Way) (v : X → ℕ → Verdict) (ok : ℕ → Bool) : ℕ → List X → List ℕ → Type 0 where
-  none : {p : ℕ} → Accepts way v ok p [] []
+  noValue : {p : ℕ} → Accepts way v ok p [] []
   more : {p : ℕ} {x : X} {q : ℕ} {xs : List X} {qs : List ℕ} → Takes way (v x) p q → ok q ≡ true → Accepts way v ok (past way q) xs qs → Accepts way v ok p (x ∷ xs) (q ∷ qs)
 
 -- the first of the values take places, and the walk for the next fails with this extent: refusal 4

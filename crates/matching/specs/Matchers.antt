@@ -13,7 +13,7 @@ use Rattle.verdict.specs.declared.Table.the-variants.{Gsub, Gpos}
 use Rattle.verdict.specs.declared.Verdict.{Verdict}
 use Rattle.verdict.specs.Matcher.{matcherOf}
 use Rattle.verdict.specs.Verdict.{Asked, judgeAt}
-use Rattle.matching.specs.declared.Lookup.{Lookup}
+use Rattle.matching.specs.declared.Terms.{Terms}
 use Rattle.ligature.specs.Ligature.{mayJoin, baseSkips}
 use Rattle.matching.specs.Take.{slots, Outcome, ahead, behind, takes}
 
@@ -41,25 +41,25 @@ abbrev pub searchedGlyphs : Table → List Glyph → List Glyph
 searchedGlyphs Gsub done = done
 searchedGlyphs Gpos done = []
 
-abbrev pub inputMatcherOf : Lookup → Matcher
+abbrev pub inputMatcherOf : Terms → Matcher
 inputMatcherOf lookup = matcherOf (lookup .settings) false (lookup .mask) (lookup .props)
 
-abbrev pub contextMatcherOf : Lookup → Matcher
+abbrev pub contextMatcherOf : Terms → Matcher
 contextMatcherOf lookup = matcherOf (lookup .settings) true (lookup .mask) (lookup .props)
 
 -- ---- the three
 
-unfoldable pub inputOn : {X : Type 0} → Lookup → List ℕ → (X → Asked) → List Glyph → List Glyph → ℕ → List X → Outcome
+unfoldable pub inputOn : {X : Type 0} → Terms → List ℕ → (X → Asked) → List Glyph → List Glyph → ℕ → List X → Outcome
 inputOn lookup sets test done coming idx values =
     inputBy (inputMatcherOf lookup) sets test (searchedGlyphs (lookup .settings .table) done) coming idx values
 
 -- from a start, the nearest value first; the starting syllable is handed in
-unfoldable pub aheadOn : {X : Type 0} → Lookup → List ℕ → (X → Asked) → List Glyph → ℕ → ℕ → List X → Outcome
+unfoldable pub aheadOn : {X : Type 0} → Terms → List ℕ → (X → Asked) → List Glyph → ℕ → ℕ → List X → Outcome
 aheadOn lookup sets test coming start syllable values =
     takes (ahead (length coming)) (judge (contextMatcherOf lookup) sets test syllable coming) anywhere start values
 
 -- from the end of the backward row; the first value is for the glyph nearest the cursor (OpenType, chapter GSUB, types 5 and 6)
-unfoldable pub backOn : {X : Type 0} → Lookup → List ℕ → (X → Asked) → List Glyph → ℕ → List X → Outcome
+unfoldable pub backOn : {X : Type 0} → Terms → List ℕ → (X → Asked) → List Glyph → ℕ → List X → Outcome
 backOn lookup sets test row syllable values =
     takes behind (judge (contextMatcherOf lookup) sets test syllable row) anywhere (length row) values
 

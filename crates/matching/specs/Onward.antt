@@ -15,19 +15,19 @@ use Rattle.walk.specs.Means.{Means}
 use Rattle.walk.specs.Laws.{walk-means}
 use Rattle.walk.specs.Parts.{raised, walk-onward}
 
-abbrev pub Within : ℕ → Walked → Type 0
-Within len (Found q) = q < len
-Within len (Stopped extent) = extent ≤ len
-Within len (RanOut extent) = extent ≤ len
-Within len Refused = ⊥
+abbrev pub WalkWithin : ℕ → Walked → Type 0
+WalkWithin len (Found q) = q < len
+WalkWithin len (Stopped extent) = extent ≤ len
+WalkWithin len (RanOut extent) = extent ≤ len
+WalkWithin len Refused = ⊥
 
-within-means : (v : ℕ → Verdict) (len next : ℕ) (r : Walked) → next ≤ len → Means v len next r → Within len r
+within-means : (v : ℕ → Verdict) (len next : ℕ) (r : Walked) → next ≤ len → Means v len next r → WalkWithin len r
 within-means v len next (Found q) h f = f .inside
 within-means v len next (Stopped extent) h f = let i = f .inside in let k = f .counts in omega arith
 within-means v len next (RanOut extent) h f = let k = f .counts in omega arith
 within-means v len next Refused h f = f
 
-pub walk-within : (v : ℕ → Verdict) (len next : ℕ) (r : Walked) → next ≤ len → r ≡ walkFrom v len next → Within len r
+pub walk-within : (v : ℕ → Verdict) (len next : ℕ) (r : Walked) → next ≤ len → r ≡ walkFrom v len next → WalkWithin len r
 walk-within v len next r h e = within-means v len next r h (walk-means v len next r .0 (sym e))
 
 -- the walk over the part from `start` on, counted in the whole

@@ -11,7 +11,7 @@ use Rattle.glyph.specs.Glyph.{blank}
 use Rattle.glyph.specs.Reply.{Reply}
 use Rattle.verdict.specs.Verdict.{Asked}
 use Rattle.verdict.specs.declared.Verdict.{Verdict}
-use Rattle.matching.specs.declared.Lookup.{Lookup}
+use Rattle.matching.specs.declared.Terms.{Terms}
 use Rattle.matching.specs.declared.InputMatch.{InputMatch}
 use Rattle.matching.specs.declared.ContextMatch.{ContextMatch}
 use Rattle.matching.specs.Take.{Way, ahead, reached}
@@ -50,12 +50,12 @@ pub record ContextPromise {X : Type 0} (way : Way) (p : ℕ) (values : List X) (
 
 -- ---- the judges and the rule of the three
 
-abbrev pub inputJudge : {X : Type 0} → Lookup → List ℕ → (X → Asked) → List Glyph → ℕ → X → ℕ → Verdict
+abbrev pub inputJudge : {X : Type 0} → Terms → List ℕ → (X → Asked) → List Glyph → ℕ → X → ℕ → Verdict
 inputJudge lookup sets test text idx = judge (inputMatcherOf lookup) sets test (getD text idx blank .syllable) text
 
-abbrev pub inputRule : Lookup → List ℕ → List Glyph → List Glyph → ℕ → ℕ → Bool
+abbrev pub inputRule : Terms → List ℕ → List Glyph → List Glyph → ℕ → ℕ → Bool
 inputRule lookup sets done text idx = joins (inputMatcherOf lookup) sets (searchedGlyphs (lookup .settings .table) done) text idx
 
 -- over a row of glyphs, the starting syllable being the cursor's
-abbrev pub contextJudge : {X : Type 0} → Lookup → List ℕ → (X → Asked) → List Glyph → ℕ → List Glyph → X → ℕ → Verdict
+abbrev pub contextJudge : {X : Type 0} → Terms → List ℕ → (X → Asked) → List Glyph → ℕ → List Glyph → X → ℕ → Verdict
 contextJudge lookup sets test text idx row = judge (contextMatcherOf lookup) sets test (getD text idx blank .syllable) row

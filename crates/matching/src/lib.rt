@@ -20,7 +20,7 @@ ghost use Rattle.matching.specs.Answers.{slotted, countOf, madeOf, input
 pub const MAX_CONTEXT_LENGTH: usize = 64;
 
 // What a lookup asks of a text, the same for every glyph.
-pub struct Lookup {
+pub struct Terms {
     pub settings: Settings,
     pub mask: u32,
     pub props: u32,
@@ -70,7 +70,7 @@ pub fn input(
     before: &[u32],
     text: &[u32],
     idx: usize,
-    lookup: Lookup,
+    lookup: Terms,
     sets: &[u16],
     test: Test,
     lists: &[u16],

@@ -8,7 +8,7 @@ use lib.ListN.{length, getD, take}
 use Rattle.glyph.specs.Glyph.{glyphsOf, illShaped, blank}
 use Rattle.glyph.specs.Sets.{oddSets}
 use Rattle.verdict.specs.Verdict.{Asked}
-use Rattle.matching.specs.declared.Lookup.{Lookup}
+use Rattle.matching.specs.declared.Terms.{Terms}
 use Rattle.matching.specs.declared.Refusal.the-variants.{Shape, Cursor, Values, Start}
 use Rattle.matching.specs.declared.InputAnswer.{InputAnswer}
 use Rattle.matching.specs.declared.InputMatch.{InputMatch}
@@ -63,19 +63,19 @@ contextUnless (Fit.Refused why) m = ContextMatch.Refused why
 
 -- ---- the calls; `done` counts with its first d glyphs, `coming` with its first len
 
-unfoldable pub inputOf : {X : Type 0} → List ℕ → ℕ → List ℕ → ℕ → ℕ → Lookup → List ℕ → (X → Asked) → List X → InputMatch
+unfoldable pub inputOf : {X : Type 0} → List ℕ → ℕ → List ℕ → ℕ → ℕ → Terms → List ℕ → (X → Asked) → List X → InputMatch
 inputOf done d coming len idx lookup sets test values =
     let text = take len (glyphsOf coming) in
     inputUnless (inputFit done d coming len idx sets (length values))
     (inputTold text idx (inputOn lookup sets test (take d (glyphsOf done)) text idx values))
 
-unfoldable pub aheadOf : {X : Type 0} → List ℕ → ℕ → List ℕ → ℕ → ℕ → ℕ → Lookup → List ℕ → (X → Asked) → List X → ContextMatch
+unfoldable pub aheadOf : {X : Type 0} → List ℕ → ℕ → List ℕ → ℕ → ℕ → ℕ → Terms → List ℕ → (X → Asked) → List X → ContextMatch
 aheadOf done d coming len idx start lookup sets test values =
     let text = take len (glyphsOf coming) in
     contextUnless (aheadFit done d coming len idx start sets (length values))
     (contextTold (ahead (length text)) start (aheadOn lookup sets test text start (getD text idx blank .syllable) values))
 
-unfoldable pub backOf : {X : Type 0} → List ℕ → ℕ → List ℕ → ℕ → ℕ → Lookup → List ℕ → (X → Asked) → List X → ContextMatch
+unfoldable pub backOf : {X : Type 0} → List ℕ → ℕ → List ℕ → ℕ → ℕ → Terms → List ℕ → (X → Asked) → List X → ContextMatch
 backOf done d coming len idx lookup sets test values =
     let text = take len (glyphsOf coming) in
     let row = backwardGlyphs (lookup .settings .table) (take d (glyphsOf done)) (take idx text) in

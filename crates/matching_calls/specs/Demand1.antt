@@ -14,7 +14,7 @@ use Rattle.glyph.specs.Glyph.{glyphsOf, blank}
 use Rattle.glyph.specs.Reply.{Reply}
 use Rattle.glyph.specs.Order.{Line, RefusedBy}
 use Rattle.verdict.specs.Verdict.{Asked}
-use Rattle.matching.specs.declared.Lookup.{Lookup}
+use Rattle.matching.specs.declared.Terms.{Terms}
 use Rattle.matching.specs.declared.Refusal.{Refusal}
 use Rattle.matching.specs.declared.Refusal.the-variants.{Shape, Cursor, Values, Start}
 use Rattle.matching_calls.specs.declared.Fit.{Fit}
@@ -122,7 +122,7 @@ module _ (way : Way) (p : ℕ) where
 
 -- ---- the calls keep it
 
-module _ {X : Type 0} (done : List ℕ) (d : ℕ) (coming : List ℕ) (len idx : ℕ) (lookup : Lookup) (sets : List ℕ) (test : X → Asked) (values : List X) where
+module _ {X : Type 0} (done : List ℕ) (d : ℕ) (coming : List ℕ) (len idx : ℕ) (lookup : Terms) (sets : List ℕ) (test : X → Asked) (values : List X) where
   abbrev n : ℕ
   n = length values
 

@@ -12,7 +12,7 @@ use Rattle.glyph.specs.Glyph.{glyphsOf, blank}
 use Rattle.glyph.specs.Reply.{Reply}
 use Rattle.verdict.specs.Verdict.{Asked}
 use Rattle.verdict.specs.declared.Verdict.{Verdict}
-use Rattle.matching.specs.declared.Lookup.{Lookup}
+use Rattle.matching.specs.declared.Terms.{Terms}
 use Rattle.matching.specs.declared.Refusal.{Refusal}
 use Rattle.matching.specs.declared.InputAnswer.{InputAnswer}
 use Rattle.matching.specs.declared.InputMatch.{InputMatch}
@@ -119,7 +119,7 @@ module _ {X : Type 0} (way : Way) (p : ℕ) (values : List X) (v : X → ℕ →
 
 -- ---- the matchers over glyphs are these
 
-module _ {X : Type 0} (lookup : Lookup) (sets : List ℕ) (test : X → Asked) where
+module _ {X : Type 0} (lookup : Terms) (sets : List ℕ) (test : X → Asked) where
   pub input-takes : (done coming : List Glyph) (idx : ℕ) (values : List X)
       → inputOn lookup sets test done coming idx values
       ≡ takes (ahead (length coming)) (inputJudge lookup sets test coming idx) (inputRule lookup sets done coming idx) (idx + 1) values
@@ -139,7 +139,7 @@ module _ {X : Type 0} (lookup : Lookup) (sets : List ℕ) (test : X → Asked) w
 
 -- ---- the calls, where no line refuses
 
-module _ {X : Type 0} (done : List ℕ) (d : ℕ) (coming : List ℕ) (len idx : ℕ) (lookup : Lookup) (sets : List ℕ) (test : X → Asked)
+module _ {X : Type 0} (done : List ℕ) (d : ℕ) (coming : List ℕ) (len idx : ℕ) (lookup : Terms) (sets : List ℕ) (test : X → Asked)
     (values : List X) where
   abbrev text : List Glyph
   text = take len (glyphsOf coming)

@@ -12,7 +12,7 @@ use lib.ListN.{length}
 use Rattle.glyph.specs.Glyph.{glyphsOf, illShaped}
 use Rattle.glyph.specs.Laws.{well-shaped}
 use Rattle.glyph.specs.Sets.{oddSets}
-use Rattle.glyph.specs.Order.{firstOf, RefusedBy, LetThrough, Tested, testsOf, linesOf, refused-exactly, through-exactly}
+use Rattle.glyph.specs.Order.{firstAnswer, RefusedBy, LetThrough, Tested, testsOf, linesOf, refused-exactly, through-exactly}
 use Rattle.glyph.specs.Tests.{both, at-or-past, over, nothing, paired}
 use Rattle.matching.specs.declared.Refusal.the-variants.{Shape, Cursor, Values, Start}
 use Rattle.matching.specs.Take.{slots}
@@ -67,7 +67,7 @@ fits-by : (f : Fit) → (f ≡ Fit.Fits) ↔ (fitNumber f ≡ none)
 fits-by Fit.Fits = (λ e. refl, λ e. refl)
 fits-by (Fit.Refused why) = (λ e. ap fitNumber e, λ e. absurd (Option·some-ne-none (refusalNumber why) e))
 
-module _ (f : Fit) (ts : List Tested) (first : fitNumber f ≡ firstOf (testsOf ts)) where
+module _ (f : Fit) (ts : List Tested) (first : fitNumber f ≡ firstAnswer (testsOf ts)) where
   refused-by : (n : ℕ) → (fitNumber f ≡ some n) ↔ RefusedBy n (linesOf ts)
   refused-by n = let t = refused-exactly ts n in (λ e. t .0 (sym first ∙ e), λ r. first ∙ t .1 r)
 
@@ -97,8 +97,8 @@ module _ (done : List ℕ) (d : ℕ) (coming : List ℕ) (len idx : ℕ) (sets :
   abbrev inputTests : List Tested
   inputTests = test-1 ∷ test-2 ∷ record { test = leb slots values; line = record { number = 3; lets = values ≤ 63 }; tells = few } ∷ []
 
-  input-first : fitNumber (inputFit done d coming len idx sets values) ≡ firstOf (testsOf inputTests)
-  unfolding inputFit firstOf
+  input-first : fitNumber (inputFit done d coming len idx sets values) ≡ firstAnswer (testsOf inputTests)
+  unfolding inputFit firstAnswer
   input-first = three bad (leb len idx) (leb slots values)
 
   pub input-refused : (n : ℕ) → (fitNumber (inputFit done d coming len idx sets values) ≡ some n) ↔ RefusedBy n (inputLines done d coming len idx sets values)
@@ -114,8 +114,8 @@ module _ (done : List ℕ) (d : ℕ) (coming : List ℕ) (len idx : ℕ) (sets :
   abbrev backTests : List Tested
   backTests = test-1 ∷ test-2 ∷ test-3 ∷ []
 
-  back-first : fitNumber (backFit done d coming len idx sets values) ≡ firstOf (testsOf backTests)
-  unfolding backFit firstOf
+  back-first : fitNumber (backFit done d coming len idx sets values) ≡ firstAnswer (testsOf backTests)
+  unfolding backFit firstAnswer
   back-first = three bad (leb len idx) (ltb slots values)
 
   pub back-refused : (n : ℕ) → (fitNumber (backFit done d coming len idx sets values) ≡ some n) ↔ RefusedBy n (backLines done d coming len idx sets values)
@@ -141,8 +141,8 @@ module _ (done : List ℕ) (d : ℕ) (coming : List ℕ) (len idx : ℕ) (sets :
         ∷ record { test = eqb start 0; line = record { number = 6; lets = 1 ≤ start }; tells = nothing start }
         ∷ []
 
-    ahead-first : fitNumber (aheadFit done d coming len idx start sets values) ≡ firstOf (testsOf aheadTests)
-    unfolding aheadFit firstOf
+    ahead-first : fitNumber (aheadFit done d coming len idx start sets values) ≡ firstAnswer (testsOf aheadTests)
+    unfolding aheadFit firstAnswer
     ahead-first = four (bad || ltb len start) (leb len idx) (ltb slots values) (eqb start 0)
 
     pub ahead-refused : (n : ℕ)

@@ -7,7 +7,7 @@ use lib.ListN.{length, getD, take, drop}
 use Rattle.glyph.specs.declared.Glyph.{Glyph}
 use Rattle.glyph.specs.Glyph.{words, glyphOf, glyphs, glyphsOf, blank}
 use Rattle.verdict.specs.Verdict.{Asked}
-use Rattle.matching.specs.declared.Lookup.{Lookup}
+use Rattle.matching.specs.declared.Terms.{Terms}
 use Rattle.matching.specs.declared.InputAnswer.{InputAnswer}
 use Rattle.matching.specs.Take.{Outcome, taken, lost, unlike}
 use Rattle.matching.specs.Matchers.{inputOn}
@@ -20,42 +20,42 @@ use Rattle.matching_calls.specs.Kept.{input-takes}
 use Rattle.matching_calls.specs.Table.{input-fits}
 
 -- both counts are bytes
-pub record Counted (g : Glyph) : Type 0 where
+pub record ByteCounts (g : Glyph) : Type 0 where
   pub whole : g .count ≤ 255
   pub part : g .ligated ≤ 255
 
 -- any words are such a glyph
-word-counted : (w : List ℕ) → Counted (glyphOf w)
+word-counted : (w : List ℕ) → ByteCounts (glyphOf w)
 word-counted w = record { whole = omega arith; part = omega arith }
 
-blank-counted : Counted blank
+blank-counted : ByteCounts blank
 unfolding blank
 blank-counted = record { whole = omega arith; part = omega arith }
 
 -- of a row's glyphs, and past its end
-glyphs-counted : (n : ℕ) (w : List ℕ) (k : ℕ) → Counted (getD (glyphs n w) k blank)
+glyphs-counted : (n : ℕ) (w : List ℕ) (k : ℕ) → ByteCounts (getD (glyphs n w) k blank)
 unfolding glyphs
 glyphs-counted zero w k = blank-counted
 glyphs-counted (suc n) w zero = word-counted (take words w)
 glyphs-counted (suc n) w (suc k) = glyphs-counted n (drop words w) k
 
-taken-counted : (gs : List Glyph) (len k : ℕ) → ((k : ℕ) → Counted (getD gs k blank)) → Counted (getD (take len gs) k blank)
+taken-counted : (gs : List Glyph) (len k : ℕ) → ((k : ℕ) → ByteCounts (getD gs k blank)) → ByteCounts (getD (take len gs) k blank)
 taken-counted [] zero k c = blank-counted
 taken-counted [] (suc len) k c = blank-counted
 taken-counted (g ∷ gs) zero k c = blank-counted
 taken-counted (g ∷ gs) (suc len) zero c = c 0
 taken-counted (g ∷ gs) (suc len) (suc k) c = taken-counted gs len k (λ i. c (suc i))
 
-text-counted : (coming : List ℕ) (len k : ℕ) → Counted (getD (take len (glyphsOf coming)) k blank)
+text-counted : (coming : List ℕ) (len k : ℕ) → ByteCounts (getD (take len (glyphsOf coming)) k blank)
 unfolding glyphsOf
 text-counted coming len k = taken-counted (glyphs (length coming / words) coming) len k (glyphs-counted (length coming / words) coming)
 
-ligated-most : (gs : List Glyph) → ((k : ℕ) → Counted (getD gs k blank)) → (qs : List ℕ) → ligated gs qs ≤ 255 * length qs
+ligated-most : (gs : List Glyph) → ((k : ℕ) → ByteCounts (getD gs k blank)) → (qs : List ℕ) → ligated gs qs ≤ 255 * length qs
 unfolding ligated
 ligated-most gs c [] = omega arith
 ligated-most gs c (q ∷ qs) = let a = c q .part in let b = ligated-most gs c qs in omega arith
 
-module _ {X : Type 0} (done : List ℕ) (d : ℕ) (coming : List ℕ) (len idx : ℕ) (lookup : Lookup) (sets : List ℕ) (test : X → Asked) (values : List X) where
+module _ {X : Type 0} (done : List ℕ) (d : ℕ) (coming : List ℕ) (len idx : ℕ) (lookup : Terms) (sets : List ℕ) (test : X → Asked) (values : List X) where
   abbrev text : List Glyph
   text = take len (glyphsOf coming)
 

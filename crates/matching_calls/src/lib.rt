@@ -2,9 +2,9 @@
 use matching::ContextMatch;
 use matching::InputAnswer;
 use matching::InputMatch;
-use matching::Lookup;
 use matching::MAX_CONTEXT_LENGTH;
 use matching::Refusal;
+use matching::Terms;
 use verdict::Test;
 ghost use mathlib.Core.Path.{_≡_};
 ghost use mathlib.Core.List.{[]};
@@ -28,7 +28,7 @@ pub fn match_input(
     coming: &[u32],
     len: usize,
     idx: usize,
-    lookup: Lookup,
+    lookup: Terms,
     sets: &[u16],
     test: Test,
     values: &[u32],
@@ -73,7 +73,7 @@ pub fn match_lookahead(
     len: usize,
     idx: usize,
     start: usize,
-    lookup: Lookup,
+    lookup: Terms,
     sets: &[u16],
     test: Test,
     values: &[u32],
@@ -106,7 +106,7 @@ pub fn match_backtrack<'a>(
     coming: &'a [u32],
     len: usize,
     idx: usize,
-    lookup: Lookup,
+    lookup: Terms,
     sets: &[u16],
     test: Test,
     values: &[u32],

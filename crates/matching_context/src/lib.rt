@@ -1,7 +1,7 @@
 // Lookahead and backtrack against a text, and the backward row.
 use matching::ContextMatch;
-use matching::Lookup;
 use matching::Refusal;
+use matching::Terms;
 use verdict::Sign;
 use verdict::Table;
 use verdict::Test;
@@ -21,7 +21,7 @@ pub fn lookahead(
     text: &[u32],
     start: usize,
     syllable: u8,
-    lookup: Lookup,
+    lookup: Terms,
     sets: &[u16],
     test: Test,
     lists: &[u16],
@@ -58,7 +58,7 @@ pub fn lookahead(
 pub fn backtrack(
     row: &[u32],
     syllable: u8,
-    lookup: Lookup,
+    lookup: Terms,
     sets: &[u16],
     test: Test,
     lists: &[u16],

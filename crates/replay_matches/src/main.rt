@@ -7,8 +7,8 @@
 use matching::ContextMatch;
 use matching::InputAnswer;
 use matching::InputMatch;
-use matching::Lookup;
 use matching::Refusal;
+use matching::Terms;
 use stored::part;
 use stored::word;
 use verdict::Settings;
@@ -189,7 +189,7 @@ fn asked<'a>(
     }
 }
 
-fn lookup_at(words: &[u32], at: usize) -> Lookup {
+fn lookup_at(words: &[u32], at: usize) -> Terms {
     let table = table(word(words, after(at, 1)));
     let settings = Settings {
         table,
@@ -197,7 +197,7 @@ fn lookup_at(words: &[u32], at: usize) -> Lookup {
         zwj: word(words, after(at, 3)) == 1,
         syllables: word(words, after(at, 4)) == 1,
     };
-    Lookup {
+    Terms {
         settings,
         mask: word(words, after(at, 5)),
         props: word(words, after(at, 6)),

@@ -10,7 +10,7 @@ use Rattle.glyph.specs.Glyph.{blank}
 use Rattle.text.specs.Text.{Text}
 use Rattle.verdict.specs.declared.Table.{Table}
 use Rattle.verdict.specs.Verdict.{Asked, isYes}
-use Rattle.matching.specs.declared.Lookup.{Lookup as Question}
+use Rattle.matching.specs.declared.Terms.{Terms}
 use Rattle.matching.specs.Take.{ahead, Outcome, taken, lost, unlike, reached}
 use Rattle.matching.specs.Matchers.{inputOn, aheadOn, backOn}
 use Rattle.book.specs.Book.{Chain}
@@ -18,7 +18,7 @@ use Rattle.run.specs.declared.Given.{Given}
 use Rattle.run.specs.Run.{Match, Matched, Unmatched}
 
 -- what a chain with these props asks of the glyphs
-abbrev pub asks : Given → ℕ → Question
+abbrev pub asks : Given → ℕ → Terms
 asks given props = record {
   settings = record { table = Table.Gsub; zwnj = given .zwnj; zwj = given .zwj; syllables = given .syllables };
   mask = given .mask;
@@ -34,7 +34,7 @@ isTaken unlike = false
 abbrev pub itself : Asked → Asked
 itself asked = asked
 
-module _ (q : Question) (sets : List ℕ) (t : Text) where
+module _ (q : Terms) (sets : List ℕ) (t : Text) where
   abbrev pub startingSyllable : ℕ
   startingSyllable = getD (t .glyphs) (t .cursor) blank .syllable
 

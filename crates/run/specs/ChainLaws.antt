@@ -10,10 +10,10 @@ use Rattle.glyph.specs.Glyph.{blank}
 use Rattle.text.specs.Text.{Text}
 use Rattle.verdict.specs.Verdict.{Asked, equalTo, isYes}
 use Rattle.verdict.specs.declared.Verdict.{Verdict}
-use Rattle.matching.specs.declared.Lookup.{Lookup as Question}
+use Rattle.matching.specs.declared.Terms.{Terms}
 use Rattle.matching.specs.Take.{ahead, Outcome, taken, lost, unlike, reached}
 use Rattle.matching.specs.Matchers.{inputOn, inputBy}
-use Rattle.matching.specs.Demand2.{Accepts, none, more}
+use Rattle.matching.specs.Demand2.{Accepts, noValue, more}
 use Rattle.matching.specs.Demand2Laws.{demand-2}
 use Rattle.matching.specs.Rising.{as-many, end-inside}
 use Rattle.book.specs.Book.{Chain, mostInput}
@@ -27,14 +27,14 @@ use Rattle.run.specs.Chain.{inputAt, aheadAt, backAt, endAfter, isTaken,
 module _ {X : Type 0} {v : X → ℕ → Verdict} {ok : ℕ → Bool} where
   places-rise : {len p : ℕ} {values : List X} {places : List ℕ} → Accepts (ahead len) v ok p values places → Rises p (reached (ahead len) p places) places
   unfolding reached
-  places-rise none = rises.none
+  places-rise noValue = rises.noPosition
   places-rise {len} (more {q = q} {qs = qs} t k a) =
       let i = t .inside in
       let e = end-inside (omega arith) a in
       let n : q ≤ reached (ahead len) (q + 1) qs = omega (arith, e .0) in
       rises.next q (t .later) n (places-rise a)
 
-module _ (q : Question) (sets : List ℕ) (t : Text) (h : t .cursor < length (t .glyphs)) where
+module _ (q : Terms) (sets : List ℕ) (t : Text) (h : t .cursor < length (t .glyphs)) where
   input-fitting : (values : List Asked) (places : List ℕ) → length values ≤ mostInput → inputAt q sets t values ≡ taken places
       → Fitting t (Matched (t .cursor ∷ places) (endAfter q sets t places))
   unfolding inputOn inputBy

@@ -22,18 +22,18 @@ following p zero = []
 following p (suc n) = (p + 1) ∷ following (p + 1) n
 
 -- a gain of n at position i: n positions follow it, each one more than the one before, and the later ones are raised by n
-unfoldable pub gained : ℕ → ℕ → List ℕ → List ℕ
-gained i n ps = take (suc i) ps ++ following (getD ps i 0) n ++ map (λ p. p + n) (drop (suc i) ps)
+unfoldable pub withGain : ℕ → ℕ → List ℕ → List ℕ
+withGain i n ps = take (suc i) ps ++ following (getD ps i 0) n ++ map (λ p. p + n) (drop (suc i) ps)
 
 -- a loss of n at position i: n positions after it are dropped, and the later ones are lowered by n
-unfoldable pub lost : ℕ → ℕ → List ℕ → List ℕ
-lost i n ps = take (suc i) ps ++ map (λ p. p - n) (drop n (drop (suc i) ps))
+unfoldable pub withLoss : ℕ → ℕ → List ℕ → List ℕ
+withLoss i n ps = take (suc i) ps ++ map (λ p. p - n) (drop n (drop (suc i) ps))
 
 -- n glyphs more: a level whose positions would pass 64 keeps them and stops; its end moves all the same
 unfoldable pub grownBy : ℕ → ℕ → Level → Level
 grownBy i n lv =
     cond (leb (length (lv .positions) + n) mostPositions)
-    (record { live = lv .live; positions = gained i n (lv .positions); end = lv .end + n })
+    (record { live = lv .live; positions = withGain i n (lv .positions); end = lv .end + n })
     (record { live = false; positions = lv .positions; end = lv .end + n })
 
 -- n glyphs fewer: the end never comes before the record's own position, and the change is raised to what the end came back
@@ -47,7 +47,7 @@ heldBack i n lv = min (raisedTo i n lv) (length (lv .positions) - suc i)
 unfoldable pub shrunkBy : ℕ → ℕ → Level → Level
 shrunkBy i n lv = record {
   live = lv .live;
-  positions = lost i (heldBack i n lv) (lv .positions);
+  positions = withLoss i (heldBack i n lv) (lv .positions);
   end = lv .end - raisedTo i n lv;
 }
 
@@ -64,7 +64,7 @@ Repairing = ℕ → ℕ → ℕ → Level → Level
 
 -- positions from `low` on, each after the one before it, none past the end
 pub data Rises : ℕ → ℕ → List ℕ → Type 0 where
-  none : {low end : ℕ} → Rises low end []
+  noPosition : {low end : ℕ} → Rises low end []
   next : {low end : ℕ} {ps : List ℕ} (p : ℕ) → low ≤ p → p ≤ end → Rises (p + 1) end ps → Rises low end (p ∷ ps)
 
 -- a level of at most 64 positions over a text of so many glyphs: they rise from `low`, none passes the end, and the end is in the text

@@ -10,39 +10,39 @@ use borrow.Author.Tests.{leb-true, leb-false, ltb-true, ltb-false}
 use lib.Dec.{leb, ltb}
 use lib.ListN.{length, getD, take, drop, length-append, length-take, length-drop, length-map}
 use lib.Seq.{drop-nil, take-nil}
-use Rattle.run.specs.Repair.{Level, mostPositions, following, gained, lost, grownBy, shrunkBy, raisedTo, heldBack, repaired, Rises, Sound, Mends, none, next}
+use Rattle.run.specs.Repair.{Level, mostPositions, following, withGain, withLoss, grownBy, shrunkBy, raisedTo, heldBack, repaired, Rises, Sound, Mends, noPosition, next}
 
 pub rises-wider : {low end : ℕ} {ps : List ℕ} (low′ end′ : ℕ) → low′ ≤ low → end ≤ end′ → Rises low end ps → Rises low′ end′ ps
-rises-wider low′ end′ l e none = none
+rises-wider low′ end′ l e noPosition = noPosition
 rises-wider low′ end′ l e (next p a b r) = next {low = low′} {end = end′} p (omega arith) (omega arith) (rises-wider (p + 1) end′ (omega arith) e r)
 
 -- a position of the list
 pub rises-at : {low end : ℕ} {ps : List ℕ} (i : ℕ) → i < length ps → Rises low end ps → (low + i ≤ getD ps i 0) × (getD ps i 0 ≤ end)
-rises-at i h none = let z : ⊥ = omega arith in absurd z
+rises-at i h noPosition = let z : ⊥ = omega arith in absurd z
 rises-at zero h (next p a b r) = (omega arith, b)
 rises-at (suc i) h (next p a b r) = let q = rises-at i (omega arith) r in (omega (arith, q .0), q .1)
 
 -- what is left without the first n is n further on
 pub rises-drop : {low end : ℕ} {ps : List ℕ} (n : ℕ) → Rises low end ps → Rises (low + n) end (drop n ps)
 rises-drop {low} {end} zero r = rises-wider (low + 0) end (omega arith) (omega arith) r
-rises-drop (suc n) none = none
+rises-drop (suc n) noPosition = noPosition
 rises-drop {low} {end} (suc n) (next p a b r) = rises-wider (low + suc n) end (omega arith) (omega arith) (rises-drop n r)
 
 rises-up : {low end : ℕ} {ps : List ℕ} (n : ℕ) → Rises low end ps → Rises (low + n) (end + n) (map (λ p. p + n) ps)
-rises-up n none = none
+rises-up n noPosition = noPosition
 rises-up {low} {end} n (next p a b r) = next {low = low + n} {end = end + n} (p + n) (omega arith) (omega arith) (rises-wider (p + n + 1) (end + n) (omega arith) (omega arith) (rises-up n r))
 
 rises-down : (low : ℕ) {start end : ℕ} {ps : List ℕ} (n : ℕ) → start ≡ low + n → Rises start end ps → Rises low (end - n) (map (λ p. p - n) ps)
-rises-down low n e none = none
+rises-down low n e noPosition = noPosition
 rises-down low {end = end} n e (next p a b r) = next {low = low} {end = end - n} (p - n) (omega arith) (omega arith) (rises-down (p - n + 1) n (omega arith) r)
 
 rises-join : {low end m : ℕ} {a b : List ℕ} → m ≤ end → low ≤ m + 1 → Rises low m a → Rises (m + 1) end b → Rises low end (a ++ b)
-rises-join {low} {end} h l none s = rises-wider low end l (omega arith) s
+rises-join {low} {end} h l noPosition s = rises-wider low end l (omega arith) s
 rises-join {low} {end} h l (next p x y r) s = next {low = low} {end = end} p x (omega arith) (rises-join h (omega arith) r s)
 
 following-rises : (p n : ℕ) → Rises (p + 1) (p + n) (following p n)
 unfolding following
-following-rises p zero = none
+following-rises p zero = noPosition
 following-rises p (suc n) = next {low = p + 1} {end = p + suc n} (p + 1) (omega arith) (omega arith) (rises-wider (p + 1 + 1) (p + suc n) (omega arith) (omega arith) (following-rises (p + 1) n))
 
 pub length-following : (p n : ℕ) → length (following p n) ≡ n
@@ -52,37 +52,37 @@ length-following p (suc n) = ap suc (length-following (p + 1) n)
 
 -- ---- a gain
 
-pub gained-rises : {low end : ℕ} {ps : List ℕ} (i n : ℕ) → i < length ps → Rises low end ps → Rises low (end + n) (gained i n ps)
-unfolding gained
-gained-rises i n h none = let z : ⊥ = omega arith in absurd z
+pub gained-rises : {low end : ℕ} {ps : List ℕ} (i n : ℕ) → i < length ps → Rises low end ps → Rises low (end + n) (withGain i n ps)
+unfolding withGain
+gained-rises i n h noPosition = let z : ⊥ = omega arith in absurd z
 gained-rises {low} {end} zero n h (next p a b r) =
     let up = rises-wider (p + n + 1) (end + n) (omega arith) (omega arith) (rises-up n r) in
     next {low = low} {end = end + n} p a (omega arith) (rises-join {m = p + n} (omega arith) (omega arith) (following-rises p n) up)
 gained-rises {low} {end} (suc i) n h (next p a b r) = next {low = low} {end = end + n} p a (omega arith) (gained-rises i n (omega arith) r)
 
-pub length-gained : (i n : ℕ) (ps : List ℕ) → i < length ps → length (gained i n ps) ≡ length ps + n
-unfolding gained
+pub length-gained : (i n : ℕ) (ps : List ℕ) → i < length ps → length (withGain i n ps) ≡ length ps + n
+unfolding withGain
 length-gained i n ps h = simp (length-append, length-map, length-take, length-drop, length-following) (omega arith)
 
 -- ---- a loss; where positions are left after the dropped ones, the end came back as far as they did
 
 tail-rises : (low end′ : ℕ) {start end : ℕ} {ps : List ℕ} (n : ℕ) → start ≡ low + n → (1 ≤ length ps → end - n ≤ end′) → Rises start end ps
     → Rises low end′ (map (λ p. p - n) ps)
-tail-rises low end′ n e m none = none
+tail-rises low end′ n e m noPosition = noPosition
 tail-rises low end′ n e m (next p a b r) = rises-wider low end′ (omega arith) (m (omega arith)) (rises-down low n e (next p a b r))
 
 pub lost-rises : {low end : ℕ} {ps : List ℕ} (i n end′ : ℕ) → i < length ps → getD ps i 0 ≤ end′ → (n + suc i < length ps → end - n ≤ end′)
-    → Rises low end ps → Rises low end′ (lost i n ps)
-unfolding lost
-lost-rises i n end′ h k m none = let z : ⊥ = omega arith in absurd z
+    → Rises low end ps → Rises low end′ (withLoss i n ps)
+unfolding withLoss
+lost-rises i n end′ h k m noPosition = let z : ⊥ = omega arith in absurd z
 lost-rises {low} zero n end′ h k m (next {ps = ps} p a b r) =
     next {low = low} {end = end′} p a k (tail-rises (p + 1) end′ n refl (λ o. m (omega (arith, length-drop n ps))) (rises-drop n r))
 lost-rises {low} (suc i) n end′ h k m (next {ps = ps} p a b r) =
     let q = rises-at i (omega arith) r in
     next {low = low} {end = end′} p a (omega (arith, q .0)) (lost-rises i n end′ (omega arith) k (λ o. m (omega arith)) r)
 
-pub length-lost : (i n : ℕ) (ps : List ℕ) → i < length ps → n ≤ length ps - suc i → length (lost i n ps) ≡ length ps - n
-unfolding lost
+pub length-lost : (i n : ℕ) (ps : List ℕ) → i < length ps → n ≤ length ps - suc i → length (withLoss i n ps) ≡ length ps - n
+unfolding withLoss
 length-lost i n ps h k = simp (length-append, length-map, length-take, length-drop) (omega arith)
 
 -- ---- repair
@@ -100,7 +100,7 @@ module _ {low old : ℕ} {lv : Level} (s : Sound low old lv) (i : ℕ) (h : i < 
   grown-sound n = by (leb (length (lv .positions) + n) mostPositions) refl
     where
       by : (c : Bool) → leb (length (lv .positions) + n) mostPositions ≡ c → Sound low (old + n)
-          (cond c (record { live = lv .live; positions = gained i n (lv .positions); end = lv .end + n })
+          (cond c (record { live = lv .live; positions = withGain i n (lv .positions); end = lv .end + n })
           (record { live = false; positions = lv .positions; end = lv .end + n }))
       by true e =
           let l = leb-true (length (lv .positions) + n) mostPositions e in

@@ -80,7 +80,7 @@ lookup-adds rules book d k = done-adds (chainRun rules book d) (chain-adds rules
 -- ---- a due record that meets allowance 0
 
 -- what ends Short was Short before or met allowance 0; and what met it is Short with nothing left
-pub record Told {X : Type 0} (leftIn : X → ℕ) (endIn : X → Ending) (f : X → X) (met : X → Type 0) : Type 0 where
+pub record ShortExactly {X : Type 0} (leftIn : X → ℕ) (endIn : X → Ending) (f : X → X) (met : X → Type 0) : Type 0 where
   pub only : (x : X) → endIn (f x) ≡ Short → (endIn x ≡ Short) ⊎ met x
   pub so : (x : X) → met x → Out leftIn endIn (f x)
 
@@ -94,19 +94,19 @@ made-told : (m : Made) (x : Run) → ends (madeIn m x) ≡ Short → ends x ≡ 
 made-told (Into t) x h = h
 made-told (Halts why) x h = absurd (reason-short why h)
 
-chained-told : (g : Stage → Stage) (met : Stage → Type 0) → Told leftOf endOf g met → (m : Match) → Told left ends (chainedBy g m) (MetMatch met m)
+chained-told : (g : Stage → Stage) (met : Stage → Type 0) → ShortExactly leftOf endOf g met → (m : Match) → ShortExactly left ends (chainedBy g m) (MetMatch met m)
 chained-told g met G (Matched ps e) = record { only = λ x. G .only (opened ps e x); so = λ x. G .so (opened ps e x) }
 chained-told g met G Unmatched = record { only = λ x h. inl h; so = λ x m. absurd m }
 
-module _ (chain : List Record → Stage → Stage) (met : List Record → Stage → Type 0) (C : (rs : List Record) → Told leftOf endOf (chain rs) (met rs)) where
-  done-told : (deed : Deed) → Told left ends (doneBy chain deed) (MetDeed met deed)
+module _ (chain : List Record → Stage → Stage) (met : List Record → Stage → Type 0) (C : (rs : List Record) → ShortExactly leftOf endOf (chain rs) (met rs)) where
+  done-told : (deed : Deed) → ShortExactly left ends (doneBy chain deed) (MetDeed met deed)
   done-told (Acts act) = record { only = λ x h. inl (made-told (act (x .text)) x h); so = λ x m. absurd m }
   done-told (Chains match rs) = record {
     only = λ x. chained-told (chain rs) (met rs) (C rs) (match (x .text)) .only x;
     so = λ x. chained-told (chain rs) (met rs) (C rs) (match (x .text)) .so x;
   }
 
-module _ (f : ℕ → Effect) (met : ℕ → Run → Type 0) (F : (k : ℕ) → Told left ends (f k .does) (met k)) where
+module _ (f : ℕ → Effect) (met : ℕ → Run → Type 0) (F : (k : ℕ) → ShortExactly left ends (f k .does) (met k)) where
   tried-only : (d l : ℕ) (r : Record) (v : Stage) → endOf (triedBy f d l r v) ≡ Short → (endOf v ≡ Short) ⊎ MetTry met d l r v
   unfolding triedBy
   tried-only d zero r v h = inr tt
@@ -129,7 +129,7 @@ module _ (f : ℕ → Effect) (met : ℕ → Run → Type 0) (F : (k : ℕ) → 
   step-so : (d : ℕ) (r : Record) (v : Stage) → isDue r v ≡ true → MetTry met d (leftOf v) r (arrived r v) → Out leftOf endOf (stepBy f d r v)
   step-so d r v e m = rw e (tried-so d (leftOf v) r (arrived r v) refl m)
 
-  records-told : (d : ℕ) (rs : List Record) → Told leftOf endOf (recordsBy f d rs) (MetRecords met f d rs)
+  records-told : (d : ℕ) (rs : List Record) → ShortExactly leftOf endOf (recordsBy f d rs) (MetRecords met f d rs)
   unfolding recordsBy MetRecords
   records-told d [] = record { only = λ v h. inl h; so = λ v m. absurd m }
   records-told d (r ∷ rs) = record {
@@ -138,7 +138,7 @@ module _ (f : ℕ → Effect) (met : ℕ → Run → Type 0) (F : (k : ℕ) → 
     so = λ v m. ⊎-elim (λ a. records-stays f d rs (stepBy f d r v) (step-so d r v (a .0) (a .1))) (records-told d rs .so (stepBy f d r v)) m;
   }
 
-closing-told : (g : Stage → Stage) (met : Stage → Type 0) → Told leftOf endOf g met → Told leftOf endOf (λ v. closed (g v)) met
+closing-told : (g : Stage → Stage) (met : Stage → Type 0) → ShortExactly leftOf endOf g met → ShortExactly leftOf endOf (λ v. closed (g v)) met
 unfolding closed
 closing-told g met G = record { only = λ v h. G .only v (by v (not (isOver (g v .run .tally .ending))) h); so = λ v m. closed-stays (g v) (G .so v m) }
   where
@@ -146,7 +146,7 @@ closing-told g met G = record { only = λ v h. G .only v (by v (not (isOver (g v
     by v true h = h
     by v false h = h
 
-pub chain-told : (rules : Rules) (book : List Lookup) (d : ℕ) (rs : List Record) → Told leftOf endOf (chainRun rules book d rs) (Met rules book d rs)
+pub chain-told : (rules : Rules) (book : List Lookup) (d : ℕ) (rs : List Record) → ShortExactly leftOf endOf (chainRun rules book d rs) (Met rules book d rs)
 unfolding chainRun Met
 chain-told rules book zero rs =
     closing-told _ _ (records-told (acting (mending rules book) (λ k x. x)) (λ k x. ⊥) (λ k. record { only = λ x h. inl h; so = λ x m. absurd m }) zero rs)

@@ -19,7 +19,7 @@ use Rattle.text.specs.Laws.{sizes}
 use Rattle.matching.specs.declared.InputAnswer.{InputAnswer}
 use Rattle.matching.specs.declared.InputMatch.{InputMatch}
 use Rattle.matching.specs.Take.{slots}
-use Rattle.matching.specs.Answers.{slotted, endOf}
+use Rattle.matching.specs.Answers.{slotted, matchEnd}
 use Rattle.book.specs.declared.Index.{Index}
 use Rattle.book.specs.Book.{Reading, Reads, Unreadable, readBook, isRead, recordsOf, lookupsOf, lookupsBy}
 use Rattle.book.specs.Places.{indexOf, indexed, noIndex}
@@ -31,15 +31,15 @@ use Rattle.run.specs.Run.{Run, Stage, opened, fromDone, movedLevel, mostAllowan
 use Rattle.run_positions.specs.declared.Slots.{Slots}
 use Rattle.run_positions.specs.Slots.{levelOf, shown, Neat}
 use Rattle.run_positions.specs.Laws.{level-shown, shown-neat}
-use Rattle.run_calls.specs.declared.Refusal.{Refusal}
-use Rattle.run_calls.specs.declared.Refusal.the-variants.{Shape, Cursor, Limits, Book, Match}
+use Rattle.run_calls.specs.declared.RunRefusal.{RunRefusal}
+use Rattle.run_calls.specs.declared.RunRefusal.the-variants.{Shape, Cursor, Limits, Book, Match}
 use Rattle.run_calls.specs.declared.RunEnding.{RunEnding}
 use Rattle.run_calls.specs.declared.RunAnswer.{RunAnswer}
 use Rattle.run_calls.specs.declared.Checked.{Checked}
 use Rattle.run_cycle.specs.declared.Closed.{Closed}
 use Rattle.run_step.specs.State.{Ran}
 use Rattle.run_cycle.specs.Levels.{Indexed, Chained}
-use Rattle.run_calls.specs.Calls.{Handed, badRecords, checkedFirst, checkedPlaces, checkedMatch, checkedBook, checkedAll, then, risesTo, goodPlaces, refusedBy, Whole, SaidBy}
+use Rattle.run_calls.specs.Calls.{Handed, badRecords, checkedFirst, checkedPlaces, checkedMatch, checkedBook, checkedAll, then, risesTo, goodPlaces, refusedBy, RunLeaves, SaidBy}
 
 -- ---- places that rise, one a turn
 
@@ -102,7 +102,7 @@ module _ (idx end count : ℕ) (places : List ℕ) where
 -- rising places, moved to the text, are a level's positions
 pub moved-rise : (low end : ℕ) (ps : List ℕ) (idx d lo : ℕ) → idx ≤ low → lo ≡ d + (low - idx) → risesTo low end ps ≡ true → Rises lo (d + (end - idx)) (map (fromDone idx d) ps)
 unfolding risesTo
-moved-rise low end [] idx d lo h q e = rises.none
+moved-rise low end [] idx d lo h q e = rises.noPosition
 moved-rise low end (p ∷ ps) idx d lo h q e =
     let a = leb-true low p (and-left (leb low p) (ltb p end && risesTo (p + 1) end ps) e) in
     let r = and-right (leb low p) (ltb p end && risesTo (p + 1) end ps) e in
@@ -173,7 +173,7 @@ module _ (done coming : List ℕ) (p : Place) (f : Fits done coming p) (end coun
 
 pub whole-is : (v : Stage) (done₁ coming₁ done₂ coming₂ : List ℕ) (r : Closed) → Chained done₁ coming₁ r v
     → Holds done₂ coming₂ (r .state .place) (textOf done₁ coming₁ (r .state .place)) → Clear done₂ coming₂ (r .state .place)
-    → Whole v done₂ coming₂ (record { ending = RunEnding.Ended (r .state .ending); spent = r .state .spent; d = r .state .place .d; idx = r .state .place .idx; count = r .level .count; positions = r .level .at })
+    → RunLeaves v done₂ coming₂ (record { ending = RunEnding.Ended (r .state .ending); spent = r .state .spent; d = r .state .place .d; idx = r .state .place .idx; count = r .level .count; positions = r .level .at })
 whole-is v done₁ coming₁ done₂ coming₂ r c h k = record {
   ending = ap (λ (x : Run). RunEnding.Ended (x .tally .ending)) (c .ran .is);
   spent = ap (λ (x : Run). x .tally .spent) (c .ran .is);
@@ -185,13 +185,13 @@ whole-is v done₁ coming₁ done₂ coming₂ r c h k = record {
 
 -- ---- the refusals, by their cases
 
-pub said-whole : (k : Checked) (v : Stage) (done coming done′ coming′ : List ℕ) (r : RunAnswer) → k ≡ Checked.Accepted → Whole v done′ coming′ r → SaidBy k v done coming done′ coming′ r
+pub said-whole : (k : Checked) (v : Stage) (done coming done′ coming′ : List ℕ) (r : RunAnswer) → k ≡ Checked.Accepted → RunLeaves v done′ coming′ r → SaidBy k v done coming done′ coming′ r
 said-whole k v done coming done′ coming′ r e w = rw e w
 
 pub said-same : (k k′ : Checked) (v : Stage) (done coming done′ coming′ : List ℕ) (r : RunAnswer) → k ≡ k′ → SaidBy k′ v done coming done′ coming′ r → SaidBy k v done coming done′ coming′ r
 said-same k k′ v done coming done′ coming′ r e w = rw e w
 
-pub said-refused : (k : Checked) (why : Refusal) (v : Stage) (done coming : List ℕ) (r : RunAnswer) → k ≡ Checked.Refused why → r ≡ refusedBy why → SaidBy k v done coming done coming r
+pub said-refused : (k : Checked) (why : RunRefusal) (v : Stage) (done coming : List ℕ) (r : RunAnswer) → k ≡ Checked.Refused why → r ≡ refusedBy why → SaidBy k v done coming done coming r
 said-refused k why v done coming r e q = rw e (q, refl, refl)
 
 module _ (idx end total count : ℕ) (places : List ℕ) (a : InputAnswer) (is : a ≡ InputAnswer.Matched end total) where
@@ -201,8 +201,8 @@ module _ (idx end total count : ℕ) (places : List ℕ) (a : InputAnswer) (is :
   pub match-good : goodPlaces idx end count places ≡ true → checkedPlaces idx a count places ≡ Checked.Accepted
   match-good g = ap (λ (x : InputAnswer). checkedPlaces idx x count places) is ∙ ap (λ (b : Bool). cond b Checked.Accepted (Checked.Refused Match)) g
 
-  pub end-is : end ≡ endOf a
-  end-is = ap endOf (sym is)
+  pub end-is : end ≡ matchEnd a
+  end-is = ap matchEnd (sym is)
 
 -- ---- the first level
 
@@ -211,11 +211,11 @@ level-sound n lv L e s = rw (e, level-shown L) s
 
 -- the level's own way of writing the same run
 pub whole-first : (f : Stage → Stage) (x : Run) (lv : Slots) (idx d : ℕ) (places : List ℕ) (end end′ : ℕ) (done coming : List ℕ) (r : RunAnswer)
-    → lv ≡ shown (movedLevel idx d places end) → end ≡ end′ → Whole (f (record { level = levelOf lv; run = x })) done coming r
-    → Whole (f (opened (movedLevel idx d places end′ .positions) (movedLevel idx d places end′ .end) x)) done coming r
+    → lv ≡ shown (movedLevel idx d places end) → end ≡ end′ → RunLeaves (f (record { level = levelOf lv; run = x })) done coming r
+    → RunLeaves (f (opened (movedLevel idx d places end′ .positions) (movedLevel idx d places end′ .end) x)) done coming r
 whole-first f x lv idx d places end end′ done coming r e q w =
     let l : levelOf lv ≡ movedLevel idx d places end′ = ap levelOf e ∙ level-shown (movedLevel idx d places end) ∙ ap (movedLevel idx d places) q in
-    subst (λ (L : Level). Whole (f (record { level = L; run = x })) done coming r) l w
+    subst (λ (L : Level). RunLeaves (f (record { level = L; run = x })) done coming r) l w
 
 -- ---- the book
 
@@ -231,15 +231,15 @@ index-is ws i e r = record {
 
 -- ---- all refusals
 
-accepted-not : (why : Refusal) → Checked.Refused why ≡ Checked.Accepted → ⊥
+accepted-not : (why : RunRefusal) → Checked.Refused why ≡ Checked.Accepted → ⊥
 accepted-not why e = let z : _≡_ {A = ℕ} 0 1 = cc in omega arith
 
-not-refused : (b : Bool) (why : Refusal) (rest : Checked) → cond b (Checked.Refused why) rest ≡ Checked.Accepted → (b ≡ false) × (rest ≡ Checked.Accepted)
+not-refused : (b : Bool) (why : RunRefusal) (rest : Checked) → cond b (Checked.Refused why) rest ≡ Checked.Accepted → (b ≡ false) × (rest ≡ Checked.Accepted)
 not-refused true why rest e = absurd (accepted-not why e)
 not-refused false why rest e = (refl, e)
 
 module _ (h : Handed) (allowance depth : ℕ) where
-  pub all-first : (why : Refusal) → checkedFirst (h .done) (h .coming) (h .place) (h .sets) (h .records) allowance depth ≡ Checked.Refused why → checkedAll h allowance depth ≡ Checked.Refused why
+  pub all-first : (why : RunRefusal) → checkedFirst (h .done) (h .coming) (h .place) (h .sets) (h .records) allowance depth ≡ Checked.Refused why → checkedAll h allowance depth ≡ Checked.Refused why
   unfolding checkedAll
   all-first why e = rw e
 

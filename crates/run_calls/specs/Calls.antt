@@ -14,7 +14,7 @@ use Rattle.text.specs.Text.{Text, textOf, Holds, Clear, unfit, pastEnd}
 use Rattle.matching.specs.declared.InputAnswer.{InputAnswer}
 use Rattle.matching.specs.declared.InputMatch.{InputMatch}
 use Rattle.matching.specs.Take.{slots}
-use Rattle.matching.specs.Answers.{slotted, endOf}
+use Rattle.matching.specs.Answers.{slotted, matchEnd}
 use Rattle.book.specs.Book.{mostRecords, recordsOf, readBook, isRead, lookupsOf}
 use Rattle.run.specs.declared.Ending.{Ending}
 use Rattle.run.specs.declared.Ending.the-variants.{Finished, Short, Deep, Full}
@@ -22,8 +22,8 @@ use Rattle.run.specs.declared.Given.{Given}
 use Rattle.run.specs.Repair.{Level}
 use Rattle.run.specs.Run.{Run, Stage, runOn, movedLevel, mostAllowance, mostDepth}
 use Rattle.run.specs.Deeds.{ruled}
-use Rattle.run_calls.specs.declared.Refusal.{Refusal}
-use Rattle.run_calls.specs.declared.Refusal.the-variants.{Shape, Cursor, Limits, Book, Match}
+use Rattle.run_calls.specs.declared.RunRefusal.{RunRefusal}
+use Rattle.run_calls.specs.declared.RunRefusal.the-variants.{Shape, Cursor, Limits, Book, Match}
 use Rattle.run_calls.specs.declared.RunEnding.{RunEnding}
 use Rattle.run_calls.specs.declared.RunAnswer.{RunAnswer}
 use Rattle.run_calls.specs.declared.Checked.{Checked}
@@ -88,11 +88,11 @@ checkedAll h allowance depth =
 
 -- ---- the answer
 
-abbrev pub refusedBy : Refusal → RunAnswer
+abbrev pub refusedBy : RunRefusal → RunAnswer
 refusedBy why = record { ending = RunEnding.Refused why; spent = 0; d = 0; idx = 0; count = 0; positions = slotted [] }
 
 -- what a run leaves: the answer; the text in the rows; and 0 in the cells that are in neither part
-pub record Whole (v : Stage) (done coming : List ℕ) (r : RunAnswer) : Type 0 where
+pub record RunLeaves (v : Stage) (done coming : List ℕ) (r : RunAnswer) : Type 0 where
   pub ending : r .ending ≡ RunEnding.Ended (v .run .tally .ending)
   pub spent : r .spent ≡ v .run .tally .spent
   pub count : r .count ≡ length (v .level .positions)
@@ -105,13 +105,13 @@ abbrev pub runSays : Handed → ℕ → ℕ → Stage
 runSays h allowance depth =
     let p = h .place in
     let m = h .match in
-    let first = movedLevel (p .idx) (p .d) (take (m .count) (m .positions)) (endOf (m .answer)) in
+    let first = movedLevel (p .idx) (p .d) (take (m .count) (m .positions)) (matchEnd (m .answer)) in
     runOn (ruled (h .given) (h .sets)) (lookupsOf (h .book)) depth (recordsOf (h .records)) (first .positions) (first .end) allowance (textOf (h .done) (h .coming) p)
 
 -- refused: the number, and no word changed; accepted: what the run on the text says
 abbrev pub SaidBy : Checked → Stage → List ℕ → List ℕ → List ℕ → List ℕ → RunAnswer → Type 0
 SaidBy (Checked.Refused why) v done coming done′ coming′ r = (r ≡ refusedBy why) × (done′ ≡ done) × (coming′ ≡ coming)
-SaidBy Checked.Accepted v done coming done′ coming′ r = Whole v done′ coming′ r
+SaidBy Checked.Accepted v done coming done′ coming′ r = RunLeaves v done′ coming′ r
 
 -- what a run says of what it is handed: its answer, and both rows afterwards
 abbrev pub Said : Handed → ℕ → ℕ → List ℕ → List ℕ → RunAnswer → Type 0
@@ -125,20 +125,20 @@ endingNumber Short = 8
 endingNumber Deep = 9
 endingNumber Full = 10
 
-abbrev pub refusalNumber : Refusal → ℕ
-refusalNumber Shape = 1
-refusalNumber Cursor = 2
-refusalNumber Limits = 12
-refusalNumber Book = 11
-refusalNumber Match = 7
+abbrev pub runRefusalNumber : RunRefusal → ℕ
+runRefusalNumber Shape = 1
+runRefusalNumber Cursor = 2
+runRefusalNumber Limits = 12
+runRefusalNumber Book = 11
+runRefusalNumber Match = 7
 
 abbrev pub checkedNumber : Checked → Option ℕ
 checkedNumber Checked.Accepted = none
-checkedNumber (Checked.Refused why) = some (refusalNumber why)
+checkedNumber (Checked.Refused why) = some (runRefusalNumber why)
 
 abbrev runReplyBy : RunEnding → List ℕ → Reply
 runReplyBy (RunEnding.Ended e) values = record { number = endingNumber e; values = values }
-runReplyBy (RunEnding.Refused why) values = record { number = refusalNumber why; values = [] }
+runReplyBy (RunEnding.Refused why) values = record { number = runRefusalNumber why; values = [] }
 
 -- spent, d, idx, the count and the positions; of a refusal the number alone
 abbrev pub runReply : RunAnswer → Reply

@@ -8,7 +8,7 @@ use Rattle.text.specs.Decided.{decided}
 use Rattle.run.specs.Run.{Stage}
 use Rattle.run_calls.specs.declared.RunAnswer.{RunAnswer}
 use Rattle.run_calls.specs.declared.Checked.{Checked}
-use Rattle.run_calls.specs.Calls.{Whole, SaidBy, refusedBy}
+use Rattle.run_calls.specs.Calls.{RunLeaves, SaidBy, refusedBy}
 
 -- the same answer and the same rows
 pub record SameRun (done coming : List ℕ) (r : RunAnswer) (done′ coming′ : List ℕ) (r′ : RunAnswer) : Type 0 where
@@ -17,7 +17,7 @@ pub record SameRun (done coming : List ℕ) (r : RunAnswer) (done′ coming′ :
   pub coming-same : coming ≡ coming′
 
 whole-decided : (v : Stage) (done coming : List ℕ) (r : RunAnswer) (done′ coming′ : List ℕ) (r′ : RunAnswer) → Small done → Small coming → Small done′ → Small coming′
-    → Whole v done coming r → Whole v done′ coming′ r′ → SameRun done coming r done′ coming′ r′
+    → RunLeaves v done coming r → RunLeaves v done′ coming′ r′ → SameRun done coming r done′ coming′ r′
 whole-decided v done coming r done′ coming′ r′ a b a′ b′ w w′ =
     let p : Place = record { d = r .d; idx = r .idx } in
     let p′ : Place = record { d = r′ .d; idx = r′ .idx } in

@@ -6,7 +6,7 @@ use mathlib.Core.Logic.{_↔_, Iff·trans, _⊎_, inl, inr, ⊎-elim}
 use Prim.Native.Nat.{ℕ}
 use Rattle.glyph.specs.Order.{RefusedBy}
 use Rattle.text.specs.Text.{textOf, written}
-use Rattle.matching.specs.Answers.{endOf}
+use Rattle.matching.specs.Answers.{matchEnd}
 use Rattle.book.specs.Book.{Record, Lookup, recordsOf, lookupsOf}
 use Rattle.run.specs.declared.Ending.{Ending}
 use Rattle.run.specs.declared.Ending.the-variants.{Finished, Short, Deep, Full}
@@ -23,12 +23,12 @@ use Rattle.run_calls.specs.Calls.{SaidBy, endingNumber, Handed, checkedA
 use Rattle.run_calls.specs.Lines.{placesOf}
 use Rattle.run_calls.specs.Table as table
 use Rattle.run_calls.specs.Replies.{no-values, told-refused, told-ended}
-use Rattle.run_calls.specs.Handed.{Left, numberOf, repliesAs, Called, runLines, Acceptable}
+use Rattle.run_calls.specs.Handed.{Left, leftNumber, repliesAs, Called, runLines, Acceptable}
 
 -- the level that the match opens on the text that the rows hold, places counted from the text's first glyph
 abbrev pub openedBy : Handed → ℕ → Stage
 openedBy h allowance =
-    let first = movedLevel (h .place .idx) (h .place .d) (placesOf (h .match)) (endOf (h .match .answer)) in
+    let first = movedLevel (h .place .idx) (h .place .d) (placesOf (h .match)) (matchEnd (h .match .answer)) in
     opened (first .positions) (first .end) (begun allowance (textOf (h .done) (h .coming) (h .place)))
 
 -- what a run can meet, met by this one
@@ -51,10 +51,10 @@ pub record Demand1 (h : Handed) (allowance depth : ℕ) (l : Left) : Type 0 wher
   -- a reply without values is one of these, and has changed no word
   pub unchanged : (n : ℕ) → repliesAs n [] l → (l .done ≡ h .done) × (l .coming ≡ h .coming)
   -- nothing else is refused: what no line refuses ends with 0, 8, 9 or 10
-  pub ended : Acceptable h allowance depth ↔ ((numberOf l ≡ 0) ⊎ ((numberOf l ≡ 8) ⊎ ((numberOf l ≡ 9) ⊎ (numberOf l ≡ 10))))
-  pub short-8 : (numberOf l ≡ 8) ↔ (Acceptable h allowance depth × MetAllowance0 h allowance depth)
-  pub deep-9 : (numberOf l ≡ 9) ↔ (Acceptable h allowance depth × MetDepth0 h allowance depth)
-  pub full-10 : (numberOf l ≡ 10) ↔ (Acceptable h allowance depth × MetFull h allowance depth)
+  pub ended : Acceptable h allowance depth ↔ ((leftNumber l ≡ 0) ⊎ ((leftNumber l ≡ 8) ⊎ ((leftNumber l ≡ 9) ⊎ (leftNumber l ≡ 10))))
+  pub short-8 : (leftNumber l ≡ 8) ↔ (Acceptable h allowance depth × MetAllowance0 h allowance depth)
+  pub deep-9 : (leftNumber l ≡ 9) ↔ (Acceptable h allowance depth × MetDepth0 h allowance depth)
+  pub full-10 : (leftNumber l ≡ 10) ↔ (Acceptable h allowance depth × MetFull h allowance depth)
 
 -- ---- a call keeps it
 
@@ -62,10 +62,10 @@ module _ (h : Handed) (a d : ℕ) (l : Left) (c : Called h a d l) where
   accepted : (checkedAll h a d ≡ Checked.Accepted) ↔ Acceptable h a d
   accepted = table.accepted h a d (c .book-words)
 
-  told : (e : Ending) → (numberOf l ≡ endingNumber e) ↔ ((checkedAll h a d ≡ Checked.Accepted) × (runSays h a d .run .tally .ending ≡ e))
+  told : (e : Ending) → (leftNumber l ≡ endingNumber e) ↔ ((checkedAll h a d ≡ Checked.Accepted) × (runSays h a d .run .tally .ending ≡ e))
   told e = told-ended (checkedAll h a d) (runSays h a d) (h .done) (h .coming) (l .done) (l .coming) (l .answer) e (c .said)
 
-  ends : (e : Ending) {M : Type 0} → (runSays h a d .run .tally .ending ≡ e) ↔ M → (numberOf l ≡ endingNumber e) ↔ (Acceptable h a d × M)
+  ends : (e : Ending) {M : Type 0} → (runSays h a d .run .tally .ending ≡ e) ↔ M → (leftNumber l ≡ endingNumber e) ↔ (Acceptable h a d × M)
   ends e m = (
     λ z. let t = told e .0 z in (accepted .0 (t .0), m .0 (t .1)),
     λ s. told e .1 (accepted .1 (s .0), m .1 (s .1)),
@@ -76,7 +76,7 @@ module _ (h : Handed) (a d : ℕ) (l : Left) (c : Called h a d l) where
   same-rows (Checked.Refused why) s n e = (s .1, s .2)
   same-rows Checked.Accepted s n e = absurd (no-values (runSays h a d) (l .done) (l .coming) (l .answer) s n e)
 
-  by-ending : (e : Ending) → numberOf l ≡ endingNumber e → (numberOf l ≡ 0) ⊎ ((numberOf l ≡ 8) ⊎ ((numberOf l ≡ 9) ⊎ (numberOf l ≡ 10)))
+  by-ending : (e : Ending) → leftNumber l ≡ endingNumber e → (leftNumber l ≡ 0) ⊎ ((leftNumber l ≡ 8) ⊎ ((leftNumber l ≡ 9) ⊎ (leftNumber l ≡ 10)))
   by-ending Finished z = inl z
   by-ending Short z = inr (inl z)
   by-ending Deep z = inr (inr (inl z))
@@ -85,7 +85,7 @@ module _ (h : Handed) (a d : ℕ) (l : Left) (c : Called h a d l) where
   pub demand-1 : Demand1 h a d l
   demand-1 =
       let rules = ruled (h .given) (h .sets) in
-      let first = movedLevel (h .place .idx) (h .place .d) (placesOf (h .match)) (endOf (h .match .answer)) in
+      let first = movedLevel (h .place .idx) (h .place .d) (placesOf (h .match)) (matchEnd (h .match .answer)) in
       let t = textOf (h .done) (h .coming) (h .place) in
       record {
         refused = λ n. Iff·trans (told-refused (checkedAll h a d) (runSays h a d) (h .done) (h .coming) (l .done) (l .coming) (l .answer) n (c .said)) (table.refused h a d (c .book-words) n);

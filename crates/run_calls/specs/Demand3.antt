@@ -16,7 +16,7 @@ use Rattle.text.specs.Text.{Text, textOf, Fits}
 use Rattle.text.specs.Laws.{sizes}
 use Rattle.matching.specs.declared.InputAnswer.{InputAnswer}
 use Rattle.matching.specs.declared.InputMatch.{InputMatch}
-use Rattle.matching.specs.Answers.{slotted, endOf}
+use Rattle.matching.specs.Answers.{slotted, matchEnd}
 use Rattle.book.specs.Book.{mostRecords, recordsOf, lookupsOf}
 use Rattle.book.specs.Encode.{Narrow}
 use Rattle.run.specs.declared.Ending.{Ending}
@@ -26,21 +26,21 @@ use Rattle.run.specs.Repair.{Level}
 use Rattle.run.specs.Run.{Stage, runOn, movedLevel}
 use Rattle.run.specs.Deeds.{ruled}
 use Rattle.run.specs.Promises.{Alike, more-is-same, less-is-short, spent-within}
-use Rattle.run_calls.specs.declared.Refusal.{Refusal}
-use Rattle.run_calls.specs.declared.Refusal.the-variants.{Shape, Cursor, Limits, Book, Match}
+use Rattle.run_calls.specs.declared.RunRefusal.{RunRefusal}
+use Rattle.run_calls.specs.declared.RunRefusal.the-variants.{Shape, Cursor, Limits, Book, Match}
 use Rattle.run_calls.specs.declared.RunEnding.{RunEnding}
 use Rattle.run_calls.specs.declared.RunAnswer.{RunAnswer}
 use Rattle.run_calls.specs.declared.Checked.{Checked}
-use Rattle.run_calls.specs.Calls.{SaidBy, Whole, endingNumber, refusalNumber, runReply, Handed, checkedAll, runSays}
+use Rattle.run_calls.specs.Calls.{SaidBy, RunLeaves, endingNumber, runRefusalNumber, runReply, Handed, checkedAll, runSays}
 use Rattle.run_calls.specs.Replies.{refused-reply, ended-number, endingBy, ending-back, told-refused}
 use Rattle.run_calls.specs.Decided.{run-decided}
 use Rattle.run_calls.specs.CallLaws.{said-whole as said-by}
 use Rattle.run_calls.specs.Lines.{Limited, Beyond, Legible, placesOf, Usable}
 use Rattle.run_calls.specs.Table.{refused, accepted, fits-of}
-use Rattle.run_calls.specs.Handed.{SameText, Left, numberOf, repliesAs, textAfter, Called, Acceptable}
+use Rattle.run_calls.specs.Handed.{SameText, Left, leftNumber, repliesAs, textAfter, Called, Acceptable}
 
 -- the same number and values (spent, d, idx, the count, the positions), all 64 slots, the same text, and every word of both rows
-pub record Same (l l′ : Left) : Type 0 where
+pub record SameLeft (l l′ : Left) : Type 0 where
   pub answer : l .answer ≡ l′ .answer
   pub reply : runReply (l .answer) ≡ runReply (l′ .answer)
   pub text : textAfter l ≡ textAfter l′
@@ -49,17 +49,17 @@ pub record Same (l l′ : Left) : Type 0 where
 
 pub record Demand3 (h h′ : Handed) : Type 0 where
   -- Finished (0); at least its allowance and depth, within 12's limits
-  pub more-same : (a d a′ d′ : ℕ) (l l′ : Left) → Called h a d l → Called h′ a′ d′ l′ → numberOf l ≡ 0 → a ≤ a′ → d ≤ d′ → Limited a′ d′ → Same l l′
+  pub more-same : (a d a′ d′ : ℕ) (l l′ : Left) → Called h a d l → Called h′ a′ d′ l′ → leftNumber l ≡ 0 → a ≤ a′ → d ≤ d′ → Limited a′ d′ → SameLeft l l′
   -- and beyond them, 12
-  pub beyond-12 : (a d a′ d′ : ℕ) (l l′ : Left) → Called h a d l → Called h′ a′ d′ l′ → numberOf l ≡ 0 → Beyond a′ d′ → repliesAs 12 [] l′
+  pub beyond-12 : (a d a′ d′ : ℕ) (l l′ : Left) → Called h a d l → Called h′ a′ d′ l′ → leftNumber l ≡ 0 → Beyond a′ d′ → repliesAs 12 [] l′
   -- Finished, and s spent; with any allowance below that and the same depth it is Short (8)
-  pub less-short : (a d a′ s : ℕ) (values : List ℕ) (l l′ : Left) → Called h a d l → Called h′ a′ d l′ → repliesAs 0 (s ∷ values) l → a′ < s → numberOf l′ ≡ 8
+  pub less-short : (a d a′ s : ℕ) (values : List ℕ) (l l′ : Left) → Called h a d l → Called h′ a′ d l′ → repliesAs 0 (s ∷ values) l → a′ < s → leftNumber l′ ≡ 8
   -- so with one less
-  pub one-less-short : (a d s : ℕ) (values : List ℕ) (l l′ : Left) → Called h a d l → Called h′ s d l′ → repliesAs 0 (suc s ∷ values) l → numberOf l′ ≡ 8
+  pub one-less-short : (a d s : ℕ) (values : List ℕ) (l l′ : Left) → Called h a d l → Called h′ s d l′ → repliesAs 0 (suc s ∷ values) l → leftNumber l′ ≡ 8
 
 -- ---- a reply of 0 is a run that ended Finished
 
-refusal-not-0 : (why : Refusal) → refusalNumber why ≡ 0 → ⊥
+refusal-not-0 : (why : RunRefusal) → runRefusalNumber why ≡ 0 → ⊥
 refusal-not-0 Shape e = omega arith
 refusal-not-0 Cursor e = omega arith
 refusal-not-0 Limits e = omega arith
@@ -73,7 +73,7 @@ finished-by e z = sym (ending-back e) ∙ ap endingBy z
 record Ended0 (k : Checked) (v : Stage) (done coming : List ℕ) (r : RunAnswer) : Type 0 where
   taken : k ≡ Checked.Accepted
   finished : v .run .tally .ending ≡ Finished
-  whole : Whole v done coming r
+  whole : RunLeaves v done coming r
 
 ended-0 : (k : Checked) (v : Stage) (done₀ coming₀ done coming : List ℕ) (r : RunAnswer) → SaidBy k v done₀ coming₀ done coming r → runReply r .number ≡ 0 → Ended0 k v done coming r
 ended-0 (Checked.Refused why) v done₀ coming₀ done coming r s z = absurd (refusal-not-0 why (sym (ap (λ (x : Reply). x .number) (refused-reply r why (s .0))) ∙ z))
@@ -81,7 +81,7 @@ ended-0 Checked.Accepted v done₀ coming₀ done coming r s z =
     record { taken = refl; finished = finished-by (v .run .tally .ending) (sym (ended-number r (v .run .tally .ending) (s .ending)) ∙ z); whole = s }
 
 -- what runs that are alike leave is the same
-whole-alike : (v w : Stage) (done coming : List ℕ) (r : RunAnswer) → Alike v w → Whole v done coming r → Whole w done coming r
+whole-alike : (v w : Stage) (done coming : List ℕ) (r : RunAnswer) → Alike v w → RunLeaves v done coming r → RunLeaves w done coming r
 whole-alike v w done coming r a u = record {
   ending = u .ending ∙ ap RunEnding.Ended (a .finished .0 ∙ sym (a .finished .1));
   spent = u .spent ∙ a .spent;
@@ -93,7 +93,7 @@ whole-alike v w done coming r a u = record {
 
 module _ (h : Handed) where
   abbrev first : Level
-  first = movedLevel (h .place .idx) (h .place .d) (take (h .match .count) (h .match .positions)) (endOf (h .match .answer))
+  first = movedLevel (h .place .idx) (h .place .d) (take (h .match .count) (h .match .positions)) (matchEnd (h .match .answer))
 
   abbrev t : Text
   t = textOf (h .done) (h .coming) (h .place)
@@ -105,15 +105,15 @@ module _ (h : Handed) where
       accepted h a′ d′ w .1 (record { shaped = s .shaped; inside = s .inside; limited = l; legible = s .legible; usable = s .usable })
 
   -- what is said of a call that is accepted
-  said-whole : (a d : ℕ) (l : Left) → Called h a d l → checkedAll h a d ≡ Checked.Accepted → Whole (runSays h a d) (l .done) (l .coming) (l .answer)
+  said-whole : (a d : ℕ) (l : Left) → Called h a d l → checkedAll h a d ≡ Checked.Accepted → RunLeaves (runSays h a d) (l .done) (l .coming) (l .answer)
   said-whole a d l c e = subst (λ (k : Checked). SaidBy k (runSays h a d) (h .done) (h .coming) (l .done) (l .coming) (l .answer)) e (c .said)
 
   module _ (a d : ℕ) (l : Left) (c : Called h a d l) where
-    module _ (z : numberOf l ≡ 0) where
+    module _ (z : leftNumber l ≡ 0) where
       ended : Ended0 (checkedAll h a d) (runSays h a d) (l .done) (l .coming) (l .answer)
       ended = ended-0 (checkedAll h a d) (runSays h a d) (h .done) (h .coming) (l .done) (l .coming) (l .answer) (c .said) z
 
-      same-by : (a′ d′ : ℕ) (l′ : Left) → Called h a′ d′ l′ → a ≤ a′ → d ≤ d′ → Limited a′ d′ → Same l l′
+      same-by : (a′ d′ : ℕ) (l′ : Left) → Called h a′ d′ l′ → a ≤ a′ → d ≤ d′ → Limited a′ d′ → SameLeft l l′
       same-by a′ d′ l′ c′ more deeper lim =
           let w′ = said-whole a′ d′ l′ c′ (still-accepted (c .book-words) a d a′ d′ (ended .taken) lim) in
           let alike : Alike (runSays h a′ d′) (runSays h a d) =
@@ -135,7 +135,7 @@ module _ (h : Handed) where
           told-refused (checkedAll h a′ d′) (runSays h a′ d′) (h .done) (h .coming) (l′ .done) (l′ .coming) (l′ .answer) 12 (c′ .said) .1
           (refused h a′ d′ (c .book-words) 12 .1 (inr (s .shaped, inr (s .inside, inl (refl, n)))))
 
-      short-by : (a′ : ℕ) (l′ : Left) → Called h a′ d l′ → a′ < l .answer .spent → numberOf l′ ≡ 8
+      short-by : (a′ : ℕ) (l′ : Left) → Called h a′ d l′ → a′ < l .answer .spent → leftNumber l′ ≡ 8
       short-by a′ l′ c′ lt =
           let rules = ruled (h .given) (h .sets) in
           let book = lookupsOf (h .book) in
@@ -221,21 +221,21 @@ module _ (h h′ : Handed) (s : SameText h h′) (a d : ℕ) (k : Acceptable h a
   same-stage =
       let u = k .usable in
       let q = same-place in
-      let x : endOf (h .match .answer) ≡ endOf (h′ .match .answer) = ap endOf (u .success) ∙ sym (ap endOf (s .end (u .end) (u .total) (u .success) .1)) in
-      let first : movedLevel (h .place .idx) (h .place .d) (placesOf (h .match)) (endOf (h .match .answer))
-      ≡ movedLevel (h′ .place .idx) (h′ .place .d) (placesOf (h′ .match)) (endOf (h′ .match .answer)) =
+      let x : matchEnd (h .match .answer) ≡ matchEnd (h′ .match .answer) = ap matchEnd (u .success) ∙ sym (ap matchEnd (s .end (u .end) (u .total) (u .success) .1)) in
+      let first : movedLevel (h .place .idx) (h .place .d) (placesOf (h .match)) (matchEnd (h .match .answer))
+      ≡ movedLevel (h′ .place .idx) (h′ .place .d) (placesOf (h′ .match)) (matchEnd (h′ .match .answer)) =
       λ j. movedLevel (q j .idx) (q j .d) (s .positions j) (x j) in
       λ j. runOn (ruled (s .given j) (s .sets j)) (lookupsOf (s .book j)) d (recordsOf (s .records j)) (first j .positions) (first j .end) a (s .text j)
 
 -- what a run that is Finished left, the same call over other rows with the text may leave
-handed-over : (h h′ : Handed) → SameText h h′ → (a d : ℕ) (l : Left) → Called h a d l → numberOf l ≡ 0 → Called h′ a d l
+handed-over : (h h′ : Handed) → SameText h h′ → (a d : ℕ) (l : Left) → Called h a d l → leftNumber l ≡ 0 → Called h′ a d l
 handed-over h h′ s a d l c z =
     let e = ended h a d l c z in
     let k = accepted h a d (c .book-words) .0 (e .taken) in
     let w = subst Narrow (s .book) (c .book-words) in
     record {
       said = said-by (checkedAll h′ a d) (runSays h′ a d) (h′ .done) (h′ .coming) (l .done) (l .coming) (l .answer) (accepted h′ a d w .1 (acceptable-too h h′ s a d k))
-          (subst (λ (v : Stage). Whole v (l .done) (l .coming) (l .answer)) (same-stage h h′ s a d k) (e .whole));
+          (subst (λ (v : Stage). RunLeaves v (l .done) (l .coming) (l .answer)) (same-stage h h′ s a d k) (e .whole));
       done-words = c .done-words;
       coming-words = c .coming-words;
       book-words = w;
@@ -250,9 +250,9 @@ demand-3 h h′ s = record {
   one-less-short = λ a d s values l l′ c c′ z. less a d s (suc s) values l l′ c c′ z (omega arith);
 }
   where
-    less : (a d a′ n : ℕ) (values : List ℕ) (l l′ : Left) → Called h a d l → Called h′ a′ d l′ → repliesAs 0 (n ∷ values) l → a′ < n → numberOf l′ ≡ 8
+    less : (a d a′ n : ℕ) (values : List ℕ) (l l′ : Left) → Called h a d l → Called h′ a′ d l′ → repliesAs 0 (n ∷ values) l → a′ < n → leftNumber l′ ≡ 8
     less a d a′ n values l l′ c c′ z lt =
-        let y : numberOf l ≡ 0 = ap (λ (x : Reply). x .number) z in
+        let y : leftNumber l ≡ 0 = ap (λ (x : Reply). x .number) z in
         short-by h′ a d l (handed-over h h′ s a d l c y) y a′ l′ c′ (omega (arith, spent-first (l .answer) (l .answer .ending) n values refl z))
 
 -- so for every two that differ in allowance and depth alone

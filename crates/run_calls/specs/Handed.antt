@@ -10,18 +10,18 @@ use Rattle.matching.specs.declared.InputAnswer.{InputAnswer}
 use Rattle.book.specs.Encode.{Narrow}
 use Rattle.run_calls.specs.declared.RunAnswer.{RunAnswer}
 use Rattle.run_calls.specs.Calls.{Handed, Said, runReply}
-use Rattle.run_calls.specs.Lines.{Shaped, Inside, Limited, Legible, placesOf, Usable}
+use Rattle.run_calls.specs.Lines.{RunShaped, CursorInside, Limited, Legible, placesOf, Usable}
 
 -- ---- the lines of the refusals, of what is handed in
 
 abbrev pub ShapedOf : Handed → Type 0
-ShapedOf h = Shaped (h .done) (h .coming) (h .place) (h .sets) (h .records)
+ShapedOf h = RunShaped (h .done) (h .coming) (h .place) (h .sets) (h .records)
 
 -- the numbers in 01's order, each with what its line lets pass
 abbrev pub runLines : Handed → ℕ → ℕ → List Line
 runLines h allowance depth =
     record { number = 1; lets = ShapedOf h }
-    ∷ record { number = 2; lets = Inside (h .place) }
+    ∷ record { number = 2; lets = CursorInside (h .place) }
     ∷ record { number = 12; lets = Limited allowance depth }
     ∷ record { number = 11; lets = Legible (h .book) }
     ∷ record { number = 7; lets = Usable (h .place .idx) (h .match) }
@@ -30,7 +30,7 @@ runLines h allowance depth =
 -- each lets pass
 pub record Acceptable (h : Handed) (allowance depth : ℕ) : Type 0 where
   pub shaped : ShapedOf h
-  pub inside : Inside (h .place)
+  pub inside : CursorInside (h .place)
   pub limited : Limited allowance depth
   pub legible : Legible (h .book)
   pub usable : Usable (h .place .idx) (h .match)
@@ -61,8 +61,8 @@ pub record Left : Type 0 where
 abbrev pub textAfter : Left → Text
 textAfter l = textOf (l .done) (l .coming) (record { d = l .answer .d; idx = l .answer .idx })
 
-abbrev pub numberOf : Left → ℕ
-numberOf l = runReply (l .answer) .number
+abbrev pub leftNumber : Left → ℕ
+leftNumber l = runReply (l .answer) .number
 
 abbrev pub repliesAs : ℕ → List ℕ → Left → Type 0
 repliesAs number values l = runReply (l .answer) ≡ record { number = number; values = values }

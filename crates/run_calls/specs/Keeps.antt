@@ -28,12 +28,12 @@ use Rattle.run.specs.Drawn.{Drawn, Copied, Has, Steady, mask, mask-copied, run-
 use Rattle.run.specs.Promises.{run-good}
 use Rattle.run_calls.specs.declared.Checked.{Checked}
 use Rattle.run_cycle.specs.Cycle.{book-fair}
-use Rattle.run_calls.specs.Calls.{SaidBy, Whole, Handed, runSays}
+use Rattle.run_calls.specs.Calls.{SaidBy, RunLeaves, Handed, runSays}
 use Rattle.run_calls.specs.CallLaws.{places-show, moved-rise, index-is}
 use Rattle.run_calls.specs.Lines.{Usable, placesOf}
 use Rattle.run_calls.specs.Table.{good-by, reads, accepted, fits-of}
 use Rattle.run_calls.specs.Handed.{Left, textAfter, Called, Acceptable}
-use Rattle.matching.specs.Answers.{endOf}
+use Rattle.matching.specs.Answers.{matchEnd}
 
 fair-of : (book : List ℕ) (given : Given) (sets : List ℕ) → isRead (readBook book) ≡ true → Fair (ruled given sets) (lookupsOf book)
 fair-of book given sets r = book-fair (index-is book (indexOf book) refl (index-reads book ∙ r)) given sets
@@ -46,14 +46,14 @@ module _ (h : Handed) where
   t = textOf (h .done) (h .coming) p
 
   abbrev first : Level
-  first = movedLevel (p .idx) (p .d) (placesOf (h .match)) (endOf (h .match .answer))
+  first = movedLevel (p .idx) (p .d) (placesOf (h .match)) (matchEnd (h .match .answer))
 
   -- the level of the match that is handed in lies in the text, from the cursor on
   first-sound : Fits (h .done) (h .coming) p → Usable (p .idx) (h .match) → Sound (p .d) (length (t .glyphs)) first
   first-sound f u =
       let z = sizes (h .done) (h .coming) p f in
       let s = places-show (p .idx) (u .end) (h .match .count) (h .match .positions) (good-by (p .idx) (h .match) u) in
-      let e : endOf (h .match .answer) ≡ u .end = ap endOf (u .success) in
+      let e : matchEnd (h .match .answer) ≡ u .end = ap matchEnd (u .success) in
       let n = length-map (placesOf (h .match)) (fromDone (p .idx) (p .d)) in
       let k = length-take (h .match .count) (h .match .positions) in
       record {
@@ -74,7 +74,7 @@ module _ (h : Handed) where
         run-good (ruled (h .given) (h .sets)) (lookupsOf (h .book)) (recordsOf (h .records)) (first .positions) (first .end) t
         (fair-of (h .book) (h .given) (h .sets) (reads (h .book) (c .book-words) (k .legible))) d a (first-sound fits (k .usable)) (omega arith)
 
-    whole : Whole (runSays h a d) (l .done) (l .coming) (l .answer)
+    whole : RunLeaves (runSays h a d) (l .done) (l .coming) (l .answer)
     whole = subst (λ (k : Checked). SaidBy k (runSays h a d) (h .done) (h .coming) (l .done) (l .coming) (l .answer)) (accepted h a d (c .book-words) .1 k) (c .said)
 
     -- the level that it leaves, over the text that it leaves

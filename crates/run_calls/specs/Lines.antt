@@ -15,7 +15,7 @@ use Rattle.book.specs.Encode.{encodeAll, Legal}
 use Rattle.run.specs.Run.{mostAllowance, mostDepth}
 
 -- line 1: both rows have a run's length, d is in its row, the text is at most the limit; mark sets and records are pairs, at most 16 records
-pub record Shaped (done coming : List ℕ) (p : Place) (sets records : List ℕ) : Type 0 where
+pub record RunShaped (done coming : List ℕ) (p : Place) (sets records : List ℕ) : Type 0 where
   pub done-long : length done ≡ words * limit
   pub coming-long : length coming ≡ words * limit
   pub d-inside : p .d ≤ limit
@@ -25,8 +25,8 @@ pub record Shaped (done coming : List ℕ) (p : Place) (sets records : List ℕ)
   pub records-few : length records ≤ 2 * mostRecords
 
 -- line 2: the cursor is before the row's end
-abbrev pub Inside : Place → Type 0
-Inside p = p .idx < limit
+abbrev pub CursorInside : Place → Type 0
+CursorInside p = p .idx < limit
 
 -- line 12
 abbrev pub Limited : ℕ → ℕ → Type 0

@@ -13,14 +13,14 @@ use Rattle.glyph.specs.Reply.{Reply}
 use Rattle.run.specs.declared.Ending.{Ending}
 use Rattle.run.specs.declared.Ending.the-variants.{Finished, Short, Deep, Full}
 use Rattle.run.specs.Run.{Stage}
-use Rattle.run_calls.specs.declared.Refusal.{Refusal}
-use Rattle.run_calls.specs.declared.Refusal.the-variants.{Shape, Cursor, Limits, Book, Match}
+use Rattle.run_calls.specs.declared.RunRefusal.{RunRefusal}
+use Rattle.run_calls.specs.declared.RunRefusal.the-variants.{Shape, Cursor, Limits, Book, Match}
 use Rattle.run_calls.specs.declared.RunEnding.{RunEnding}
 use Rattle.run_calls.specs.declared.RunAnswer.{RunAnswer}
 use Rattle.run_calls.specs.declared.Checked.{Checked}
-use Rattle.run_calls.specs.Calls.{SaidBy, Whole, refusedBy, endingNumber, refusalNumber, checkedNumber, runReply}
+use Rattle.run_calls.specs.Calls.{SaidBy, RunLeaves, refusedBy, endingNumber, runRefusalNumber, checkedNumber, runReply}
 
-pub refused-reply : (r : RunAnswer) (why : Refusal) → r ≡ refusedBy why → runReply r ≡ record { number = refusalNumber why; values = [] }
+pub refused-reply : (r : RunAnswer) (why : RunRefusal) → r ≡ refusedBy why → runReply r ≡ record { number = runRefusalNumber why; values = [] }
 refused-reply r why q = rw q
 
 pub ended-number : (r : RunAnswer) (e : Ending) → r .ending ≡ RunEnding.Ended e → runReply r .number ≡ endingNumber e
@@ -44,7 +44,7 @@ isEnding n = eqb (endingNumber (endingBy n)) n
 ends : (e : Ending) → isEnding (endingNumber e) ≡ true
 ends e = eq-eqb (endingNumber (endingBy (endingNumber e))) (endingNumber e) (ap endingNumber (ending-back e))
 
-refuses : (why : Refusal) → isEnding (refusalNumber why) ≡ false
+refuses : (why : RunRefusal) → isEnding (runRefusalNumber why) ≡ false
 refuses Shape = refl
 refuses Cursor = refl
 refuses Limits = refl
@@ -54,7 +54,7 @@ refuses Match = refl
 -- ---- what a reply of a call tells
 
 -- an ending has values
-pub no-values : (v : Stage) (done coming : List ℕ) (r : RunAnswer) → Whole v done coming r → (n : ℕ) → runReply r ≡ record { number = n; values = [] } → ⊥
+pub no-values : (v : Stage) (done coming : List ℕ) (r : RunAnswer) → RunLeaves v done coming r → (n : ℕ) → runReply r ≡ record { number = n; values = [] } → ⊥
 no-values v done coming r w n e = let none = ap (λ (x : Reply). length (x .values)) (rw (w .ending) at e) in omega arith
 
 -- a number with no values is a refusal's
@@ -71,7 +71,7 @@ pub told-ended : (k : Checked) (v : Stage) (done coming done′ coming′ : List
     → (runReply r .number ≡ endingNumber e) ↔ ((k ≡ Checked.Accepted) × (v .run .tally .ending ≡ e))
 told-ended (Checked.Refused w) v done coming done′ coming′ r e s = (
   λ z.
-      let same : refusalNumber w ≡ endingNumber e = ap (λ (x : Reply). x .number) (sym (refused-reply r w (s .0))) ∙ z in
+      let same : runRefusalNumber w ≡ endingNumber e = ap (λ (x : Reply). x .number) (sym (refused-reply r w (s .0))) ∙ z in
       absurd (true≢false (sym (ends e) ∙ ap isEnding (sym same) ∙ refuses w)),
   λ h. let o = h .0 in let z : _≡_ {A = ℕ} 0 1 = cc in absurd (omega arith),
 )

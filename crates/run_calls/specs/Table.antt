@@ -15,7 +15,7 @@ use Rattle.bits.specs.Laws.{and-left, and-right}
 use Rattle.glyph.specs.Glyph.{words, limit}
 use Rattle.glyph.specs.Sets.{oddSets}
 use Rattle.glyph.specs.Tests.{both, at-or-past, over, paired}
-use Rattle.glyph.specs.Order.{firstOf, RefusedBy, Tested, testsOf, refused-exactly, through-exactly}
+use Rattle.glyph.specs.Order.{firstAnswer, RefusedBy, Tested, testsOf, refused-exactly, through-exactly}
 use Rattle.text.specs.declared.Place.{Place}
 use Rattle.text.specs.Text.{Fits, unfit, wrongLength, pastEnd}
 use Rattle.matching.specs.declared.InputAnswer.{InputAnswer}
@@ -24,10 +24,10 @@ use Rattle.matching.specs.Take.{slots}
 use Rattle.book.specs.Book.{mostRecords, Reading, Reads, Unreadable, readBook, isRead}
 use Rattle.book.specs.Encode.{Narrow}
 use Rattle.book.specs.Only.{reads-exactly}
-use Rattle.run_calls.specs.declared.Refusal.the-variants.{Shape, Cursor, Limits, Book, Match}
+use Rattle.run_calls.specs.declared.RunRefusal.the-variants.{Shape, Cursor, Limits, Book, Match}
 use Rattle.run_calls.specs.declared.Checked.{Checked}
-use Rattle.run_calls.specs.Calls.{badRecords, checkedFirst, checkedPlaces, checkedMatch, checkedAll, then, risesTo, goodPlaces, refusalNumber, checkedNumber, Handed}
-use Rattle.run_calls.specs.Lines.{Shaped, Inside, Limited, Legible, placesOf, Usable}
+use Rattle.run_calls.specs.Calls.{badRecords, checkedFirst, checkedPlaces, checkedMatch, checkedAll, then, risesTo, goodPlaces, runRefusalNumber, checkedNumber, Handed}
+use Rattle.run_calls.specs.Lines.{RunShaped, CursorInside, Limited, Legible, placesOf, Usable}
 use Rattle.run_calls.specs.Handed.{ShapedOf, runLines, Acceptable}
 use Rattle.run_calls.specs.CallLaws.{places-show}
 use Rattle.run.specs.Run.{mostAllowance, mostDepth}
@@ -41,7 +41,7 @@ module _ (done coming : List ℕ) (p : Place) (sets records : List ℕ) where
   abbrev bad1 : Bool
   bad1 = unfit done coming p || (oddSets sets || badRecords records)
 
-  shaped : (bad1 ≡ false) ↔ Shaped done coming p sets records
+  shaped : (bad1 ≡ false) ↔ RunShaped done coming p sets records
   shaped =
       let r = both (oddSets records) (ltb (2 * mostRecords) (length records)) (paired records) (over (2 * mostRecords) (length records)) in
       let o = both (oddSets sets) (badRecords records) (paired sets) r in
@@ -209,21 +209,21 @@ in-order false false false true z k e = e
 -- an accepted call has no number
 accepted-by : (k : Checked) → (k ≡ Checked.Accepted) ↔ (checkedNumber k ≡ none)
 accepted-by Checked.Accepted = (λ e. refl, λ e. refl)
-accepted-by (Checked.Refused why) = (λ e. ap checkedNumber e, λ e. absurd (Option·some-ne-none (refusalNumber why) e))
+accepted-by (Checked.Refused why) = (λ e. ap checkedNumber e, λ e. absurd (Option·some-ne-none (runRefusalNumber why) e))
 
 module _ (h : Handed) (allowance depth : ℕ) (w : Narrow (h .book)) where
   -- 01's lines in their order, each with the code's test
   abbrev tests : List Tested
   tests =
       record { test = bad1 (h .done) (h .coming) (h .place) (h .sets) (h .records); line = record { number = 1; lets = ShapedOf h }; tells = shaped (h .done) (h .coming) (h .place) (h .sets) (h .records) }
-      ∷ record { test = pastEnd (h .place); line = record { number = 2; lets = Inside (h .place) }; tells = at-or-past limit (h .place .idx) }
+      ∷ record { test = pastEnd (h .place); line = record { number = 2; lets = CursorInside (h .place) }; tells = at-or-past limit (h .place .idx) }
       ∷ record { test = bad12 allowance depth; line = record { number = 12; lets = Limited allowance depth }; tells = limited allowance depth }
       ∷ record { test = not (isRead (readBook (h .book))); line = record { number = 11; lets = Legible (h .book) }; tells = legible (h .book) w }
       ∷ record { test = bad7 (h .place .idx) (h .match); line = record { number = 7; lets = Usable (h .place .idx) (h .match) }; tells = usable (h .place .idx) (h .match) }
       ∷ []
 
-  first : checkedNumber (checkedAll h allowance depth) ≡ firstOf (testsOf tests)
-  unfolding checkedAll checkedFirst firstOf
+  first : checkedNumber (checkedAll h allowance depth) ≡ firstAnswer (testsOf tests)
+  unfolding checkedAll checkedFirst firstAnswer
   first =
       in-order (bad1 (h .done) (h .coming) (h .place) (h .sets) (h .records)) (pastEnd (h .place)) (bad12 allowance depth) (isRead (readBook (h .book))) (bad7 (h .place .idx) (h .match))
       (checkedMatch (h .place .idx) (h .match)) (number-7 (h .place .idx) (h .match))
@@ -242,5 +242,5 @@ module _ (h : Handed) (allowance depth : ℕ) (w : Narrow (h .book)) where
       )
 
 -- rows that line 1 and 2 let pass can hold a text
-pub fits-of : (h : Handed) → ShapedOf h → Inside (h .place) → Fits (h .done) (h .coming) (h .place)
+pub fits-of : (h : Handed) → ShapedOf h → CursorInside (h .place) → Fits (h .done) (h .coming) (h .place)
 fits-of h s i = let u = s .text-inside in record { long = s .done-long; wide = s .coming-long; within = omega arith; room = omega arith }

@@ -15,7 +15,7 @@ ghost use Rattle.run.specs.Run.{begun, chainRun, mostAllowance};
 ghost use Rattle.run.specs.Deeds.{ruled};
 ghost use Rattle.run_positions.specs.Slots.{levelOf, Neat};
 ghost use Rattle.run_cycle.specs.Levels.{Indexed};
-ghost use Rattle.run_calls.specs.Calls.{badRecords, checkedFirst, checkedMatch, risesTo, goodPlaces, refusedBy, Whole, runSays, SaidBy, Said};
+ghost use Rattle.run_calls.specs.Calls.{badRecords, checkedFirst, checkedMatch, risesTo, goodPlaces, refusedBy, RunLeaves, runSays, SaidBy, Said};
 ghost use Rattle.run.specs.Repair.{Sound};
 
 // Allowance and depth of a run, at most.
@@ -23,7 +23,7 @@ pub const MOST_ALLOWANCE: u32 = 2147483647;
 
 pub const MAX_NESTING_LEVEL: usize = 64;
 
-pub enum Refusal {
+pub enum RunRefusal {
     // Refusal 1.
     Shape,
     // Refusal 2.
@@ -38,7 +38,7 @@ pub enum Refusal {
 
 pub enum RunEnding {
     Ended(Ending),
-    Refused(Refusal),
+    Refused(RunRefusal),
 }
 
 // How the run ended, the lookups tried, where the text is parted, and the first level's positions; all 0 where it was refused.
@@ -53,7 +53,7 @@ pub struct RunAnswer {
 
 pub enum Checked {
     Accepted,
-    Refused(Refusal),
+    Refused(RunRefusal),
 }
 
 // A run of records over a text: `done` holds its first d glyphs, `coming` ends with the others, from glyph idx on. The match handed in counts places in `coming`.
@@ -89,7 +89,7 @@ pub fn run(
     let index = book_index::index_of(book);
     let reads = index.reads;
     if !reads {
-        return refuse(Refusal::Book);
+        return refuse(RunRefusal::Book);
     }
     let starts = index.starts;
     let count = index.count;
@@ -122,13 +122,13 @@ fn check(
     ensures { λ r. ⌜ r ≡ checkedFirst (now (done .entry)) (now (coming .entry)) place (now (sets .entry)) (now (records .entry)) allowance depth ⌝ }
 {
     if text::is_unfit(done, coming, place) | (glyph::is_odd(sets) | is_bad_list(records)) {
-        return Checked::Refused(Refusal::Shape);
+        return Checked::Refused(RunRefusal::Shape);
     }
     if text::is_past_end(place) {
-        return Checked::Refused(Refusal::Cursor);
+        return Checked::Refused(RunRefusal::Cursor);
     }
     if (MOST_ALLOWANCE < allowance) | (MAX_NESTING_LEVEL < depth) {
-        return Checked::Refused(Refusal::Limits);
+        return Checked::Refused(RunRefusal::Limits);
     }
     Checked::Accepted
 }
@@ -141,7 +141,7 @@ fn is_bad_list(records: &[u16]) -> bool
 }
 
 // A refused run: the number alone.
-fn refuse(why: Refusal) -> RunAnswer
+fn refuse(why: RunRefusal) -> RunAnswer
     ensures { λ r. ⌜ r ≡ refusedBy why ⌝ }
 {
     RunAnswer {
@@ -184,13 +184,13 @@ fn apply(
 {
     let answer = matched.answer;
     let InputAnswer::Matched { end, total } = answer else {
-        return refuse(Refusal::Match);
+        return refuse(RunRefusal::Match);
     };
     let places = matched.positions;
     let d = place.d;
     let idx = place.idx;
     if !is_level(&places, matched.count, end, idx) {
-        return refuse(Refusal::Match);
+        return refuse(RunRefusal::Match);
     }
     let m = run_positions::open(&places, matched.count, end, idx, d);
     go(
@@ -272,7 +272,7 @@ fn go(
     depth: usize,
 ) -> RunAnswer
     requires { ⌜ Indexed (now book) (now starts) count × Fits (now done) (now coming) place × (allowance ≤ mostAllowance) × Neat m × Sound 0 (length (textOf (now done) (now coming) place .glyphs)) (levelOf m) ⌝ }
-    ensures { λ r. ⌜ Whole (chainRun (ruled given (now (sets .entry))) (lookupsOf (now (book .entry))) depth (recordsOf (now (records .entry)))
+    ensures { λ r. ⌜ RunLeaves (chainRun (ruled given (now (sets .entry))) (lookupsOf (now (book .entry))) depth (recordsOf (now (records .entry)))
         (record { level = levelOf m; run = begun allowance (textOf (now (done .entry)) (now (coming .entry)) place) })) (now (done .exit)) (now (coming .exit)) r ⌝ }
 {
     let s = run_step::begin(place, allowance);

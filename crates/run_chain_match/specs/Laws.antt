@@ -12,14 +12,14 @@ use Rattle.text.specs.Text.{Text, textOf, Fits}
 use Rattle.text.specs.Changes.{at-cursor}
 use Rattle.text.specs.Laws.{sizes}
 use Rattle.verdict.specs.Verdict.{Asked, isYes, valueBy}
-use Rattle.matching.specs.declared.Lookup.{Lookup as Question}
+use Rattle.matching.specs.declared.Terms.{Terms}
 use Rattle.matching.specs.declared.InputMatch.{InputMatch}
 use Rattle.matching.specs.declared.ContextMatch.{ContextMatch}
 use Rattle.matching.specs.Take.{slots, ahead, behind, takes, reached}
 use Rattle.matching.specs.Shift.{raisedAll}
 use Rattle.matching.specs.Matchers.{inputOn, aheadOn, backOn}
 use Rattle.matching.specs.Kinds.{input-map, ahead-map, back-map}
-use Rattle.matching.specs.Answers.{slotted, inputTold, contextTold, isMatched, endOf, isFound}
+use Rattle.matching.specs.Answers.{slotted, inputTold, contextTold, isMatched, matchEnd, isFound}
 use Rattle.book.specs.declared.Part.{Part}
 use Rattle.book.specs.declared.ChainParts.{ChainParts}
 use Rattle.book.specs.declared.Entry.{Entry}
@@ -43,7 +43,7 @@ values-are wide values e =
     ap (λ (n : ℕ). take n wide) z ∙ ap (take (length values)) e ∙ widened-values values
 
 -- what the rows answer for values by a test, as for what they ask
-module _ (q : Question) (sets : List ℕ) (test : ℕ → Asked) (C : List Glyph) (values wide : List ℕ) (e : wide ≡ widened values) where
+module _ (q : Terms) (sets : List ℕ) (test : ℕ → Asked) (C : List Glyph) (values wide : List ℕ) (e : wide ≡ widened values) where
   pub input-told : (before : List Glyph) (idx : ℕ) (m : InputMatch) → m ≡ inputTold C idx (inputOn q sets test before C idx (take (length values - 0) wide))
       → m ≡ inputTold C idx (inputOn q sets itself before C idx (map test values))
   input-told before idx m h =
@@ -67,7 +67,7 @@ module _ (q : Question) (sets : List ℕ) (test : ℕ → Asked) (C : List Glyph
       ∙ ap isTaken (back-map test q sets itself C syllable values)
 
 -- no values are always there
-module _ (q : Question) (sets : List ℕ) (test : ℕ → Asked) (C : List Glyph) where
+module _ (q : Terms) (sets : List ℕ) (test : ℕ → Asked) (C : List Glyph) where
   pub no-ahead : (start syllable : ℕ) (values : List ℕ) → length values ≡ 0 → true ≡ isTaken (aheadOn q sets itself C start syllable (map test values))
   unfolding aheadOn takes
   no-ahead start syllable [] e = refl
@@ -78,7 +78,7 @@ module _ (q : Question) (sets : List ℕ) (test : ℕ → Asked) (C : List Glyph
   no-back syllable [] e = refl
   no-back syllable (x ∷ xs) e = absurd (omega arith)
 
-module _ (done coming : List ℕ) (p : Place) (f : Fits done coming p) (q : Question) (sets : List ℕ) (k : Chain Asked) (records : Part)
+module _ (done coming : List ℕ) (p : Place) (f : Fits done coming p) (q : Terms) (sets : List ℕ) (k : Chain Asked) (records : Part)
     (g : Glyph) (is : g ≡ getD (glyphsOf coming) (p .idx) blank) where
   abbrev pub told : Aim
   told = aimAt records (chainMatch q sets (textOf done coming p) k)
@@ -102,14 +102,14 @@ module _ (done coming : List ℕ) (p : Place) (f : Fits done coming p) (q : Ques
     module _ (s : Shown done coming p f q sets (k .input) m) where
       -- what the rows answer, where matching ended in the row
       abbrev pub aheadIs : Bool
-      aheadIs = isTaken (aheadOn q sets itself (glyphsOf coming) (endOf (m .answer)) (g .syllable) (k .lookahead))
+      aheadIs = isTaken (aheadOn q sets itself (glyphsOf coming) (matchEnd (m .answer)) (g .syllable) (k .lookahead))
 
       abbrev pub backIs : Bool
       backIs = isTaken (backOn q sets itself (take (p .d) (glyphsOf done)) (g .syllable) (k .backtrack))
 
       -- the level that the match opens
       abbrev pub opens : Level
-      opens = movedLevel (p .idx) (p .d) (take (m .count) (m .positions)) (endOf (m .answer))
+      opens = movedLevel (p .idx) (p .d) (take (m .count) (m .positions)) (matchEnd (m .answer))
 
       by-context : told ≡ aimAt records (cond (aheadIs && backIs) (Matched (opens .positions) (opens .end)) Unmatched)
       by-context =
@@ -133,7 +133,7 @@ module _ (done coming : List ℕ) (p : Place) (f : Fits done coming p) (q : Ques
 
       -- what opening a level asks
       pub open-asks : length (k .input) ≤ 63
-          → (length (m .positions) ≡ 64) × (m .count ≤ 64) × (p .idx ≤ endOf (m .answer)) × (endOf (m .answer) ≤ limit) × (p .d ≤ p .idx)
+          → (length (m .positions) ≡ 64) × (m .count ≤ 64) × (p .idx ≤ matchEnd (m .answer)) × (matchEnd (m .answer) ≤ limit) × (p .d ≤ p .idx)
       open-asks few =
           let z = sizes done coming p f in
           let e = s .end in
@@ -147,10 +147,10 @@ module _ (done coming : List ℕ) (p : Place) (f : Fits done coming p) (q : Ques
           full l h = let r = length-replicate {A = ℕ} (slots - length l) 0 in simp length-append (omega arith)
 
 -- the chain of an entry: an equal id is asked by the test of that name, whatever words are lent beside it
-pub aim-chain : (given : Given) (sets ws : List ℕ) (t : Text) (props : ℕ) (c : ChainParts) (q : Question) → q ≡ asks given props
+pub aim-chain : (given : Given) (sets ws : List ℕ) (t : Text) (props : ℕ) (c : ChainParts) (q : Terms) → q ≡ asks given props
     → aimAt (c .records) (chainMatch q sets t (handedChain byId ws (c .first) (partOf ws (c .backtrack)) (partOf ws (c .input)) (partOf ws (c .lookahead)) (c .records)))
     ≡ aimedAt given sets ws (Entry.Chain props c) t
 unfolding chainMatch valueBy
 aim-chain given sets ws t props c q e =
     let k = handedChain byId ws (c .first) (partOf ws (c .backtrack)) (partOf ws (c .input)) (partOf ws (c .lookahead)) (c .records) in
-    ap (λ (x : Question). aimAt (c .records) (chainMatch x sets t k)) e
+    ap (λ (x : Terms). aimAt (c .records) (chainMatch x sets t k)) e

@@ -14,11 +14,11 @@ use Rattle.text.specs.Text.{Text, textOf, Fits}
 use Rattle.text.specs.Changes.{before-cursor, from-cursor, at-cursor}
 use Rattle.text.specs.Laws.{sizes}
 use Rattle.verdict.specs.Verdict.{Asked}
-use Rattle.matching.specs.declared.Lookup.{Lookup as Question}
+use Rattle.matching.specs.declared.Terms.{Terms}
 use Rattle.matching.specs.declared.InputMatch.{InputMatch}
 use Rattle.matching.specs.Take.{Way, ahead, Outcome, taken, lost, unlike, reached}
 use Rattle.matching.specs.Matchers.{inputOn, inputBy, aheadOn, backOn}
-use Rattle.matching.specs.Answers.{slotted, matchedAt, inputTold, contextTold, isMatched, endOf, isFound}
+use Rattle.matching.specs.Answers.{slotted, matchedAt, inputTold, contextTold, isMatched, matchEnd, isFound}
 use Rattle.matching.specs.Demand2Laws.{demand-2}
 use Rattle.matching.specs.Rising.{as-many, end-inside}
 use Rattle.matching.specs.Shift.{raisedAll, raisedBy, reached-shift, input-shift, ahead-shift}
@@ -47,7 +47,7 @@ moved-all : (idx d : ℕ) (qs : List ℕ) → map (fromDone idx d) (raisedAll id
 moved-all idx d [] = refl
 moved-all idx d (q ∷ qs) = let e : d + (idx + q - idx) ≡ d + q = omega arith in ap₂ (λ (x : ℕ) (xs : List ℕ). x ∷ xs) e (moved-all idx d qs)
 
-module _ (done coming : List ℕ) (p : Place) (f : Fits done coming p) (q : Question) (sets : List ℕ) where
+module _ (done coming : List ℕ) (p : Place) (f : Fits done coming p) (q : Terms) (sets : List ℕ) where
   abbrev t : Text
   t = textOf done coming p
 
@@ -94,7 +94,7 @@ module _ (done coming : List ℕ) (p : Place) (f : Fits done coming p) (q : Ques
   pub record Shown (values : List Asked) (m : InputMatch) : Type 0 where
     pub qs : List ℕ
     pub is : from₀ values ≡ taken qs
-    pub end : endOf (m .answer) ≡ p .idx + R qs
+    pub end : matchEnd (m .answer) ≡ p .idx + R qs
     pub inside : p .idx + R qs ≤ length C
     pub begins : 1 ≤ R qs
     pub few : m .count ≡ suc (length values)
@@ -183,7 +183,7 @@ module _ (done coming : List ℕ) (p : Place) (f : Fits done coming p) (q : Ques
 
   -- the level that the match opens
   pub level-is : (values : List Asked) (m : InputMatch) (s : Shown values m)
-      → movedLevel (p .idx) (p .d) (take (m .count) (m .positions)) (endOf (m .answer))
+      → movedLevel (p .idx) (p .d) (take (m .count) (m .positions)) (matchEnd (m .answer))
       ≡ record { live = true; positions = p .d ∷ raisedAll (p .d) (s .qs); end = p .d + R (s .qs) }
   level-is values m s =
       let l : List ℕ = p .idx ∷ raisedAll (p .idx) (s .qs) in
@@ -192,5 +192,5 @@ module _ (done coming : List ℕ) (p : Place) (f : Fits done coming p) (q : Ques
       let b : map (fromDone (p .idx) (p .d)) (take (m .count) (m .positions)) ≡ p .d ∷ raisedAll (p .d) (s .qs) =
       ap (map (fromDone (p .idx) (p .d))) a
       ∙ (let e : p .d + (p .idx - p .idx) ≡ p .d = omega arith in ap₂ (λ (x : ℕ) (xs : List ℕ). x ∷ xs) e (moved-all (p .idx) (p .d) (s .qs))) in
-      let c : p .d + (endOf (m .answer) - p .idx) ≡ p .d + R (s .qs) = let u = s .end in omega arith in
+      let c : p .d + (matchEnd (m .answer) - p .idx) ≡ p .d + R (s .qs) = let u = s .end in omega arith in
       λ j. record { live = true; positions = b j; end = c j }

@@ -4,7 +4,7 @@ use book::Part;
 use matching::ContextMatch;
 use matching::InputAnswer;
 use matching::InputMatch;
-use matching::Lookup;
+use matching::Terms;
 use run::Given;
 use run_positions::Slots;
 use text::Place;
@@ -20,8 +20,8 @@ ghost use Rattle.glyph.specs.Glyph.{limit, glyphsOf};
 ghost use Rattle.text.specs.Text.{textOf, Fits};
 ghost use Rattle.verdict.specs.Verdict.{valueBy};
 ghost use Rattle.matching.specs.Matchers.{inputOn, aheadOn, backOn};
-ghost use Rattle.matching.specs.Answers.{inputTold, isMatched, endOf, isFound};
-ghost use Rattle.book.specs.Inside.{Good};
+ghost use Rattle.matching.specs.Answers.{inputTold, isMatched, matchEnd, isFound};
+ghost use Rattle.book.specs.Inside.{EntryInside};
 ghost use Rattle.run.specs.Chain.{asks, isTaken, itself, chainMatch};
 ghost use Rattle.run_chain_match.specs.Aim.{noAim, aimAt, byId, handedChain, aimedAt};
 
@@ -40,10 +40,10 @@ pub struct Tests {
 }
 
 // What a chain with these props asks of the glyphs: the run's switches and mask, under GSUB.
-fn ask(given: Given, props: u32) -> Lookup
+fn ask(given: Given, props: u32) -> Terms
     ensures { λ r. ⌜ r ≡ asks given props ⌝ }
 {
-    Lookup {
+    Terms {
         settings: Settings {
             table: Table::Gsub,
             zwnj: given.zwnj,
@@ -68,7 +68,7 @@ fn is_matched(a: InputAnswer) -> bool
 
 // The end of a match, else 0.
 fn end_of(a: InputAnswer) -> usize
-    ensures { λ r. ⌜ r ≡ endOf a ⌝ }
+    ensures { λ r. ⌜ r ≡ matchEnd a ⌝ }
 {
     match a {
         InputAnswer::Matched { end, total: _ } => end,
@@ -93,7 +93,7 @@ fn match_values(
     before: &[u32],
     coming: &[u32],
     idx: usize,
-    q: Lookup,
+    q: Terms,
     sets: &[u16],
     test: Test,
     lists: &[u16],
@@ -114,7 +114,7 @@ fn is_ahead(
     coming: &[u32],
     start: usize,
     syllable: u8,
-    q: Lookup,
+    q: Terms,
     sets: &[u16],
     test: Test,
     lists: &[u16],
@@ -145,7 +145,7 @@ fn is_ahead(
 fn is_behind(
     before: &[u32],
     syllable: u8,
-    q: Lookup,
+    q: Terms,
     sets: &[u16],
     test: Test,
     lists: &[u16],
@@ -187,7 +187,7 @@ fn match_chain(
     tests: Tests,
     lists: &[u16],
     p: Place,
-    q: Lookup,
+    q: Terms,
     first: u32,
     back: &[u16],
     input: &[u16],
@@ -250,7 +250,7 @@ pub fn take_aim(
     p: Place,
     given: Given,
 ) -> Aim
-    requires { ⌜ Fits (now done) (now coming) p × (p .idx < limit) × Good (length (now book)) e ⌝ }
+    requires { ⌜ Fits (now done) (now coming) p × (p .idx < limit) × EntryInside (length (now book)) e ⌝ }
     ensures { λ r. ⌜ r ≡ aimedAt given (now (sets .entry)) (now (book .entry)) e (textOf (now (done .entry)) (now (coming .entry)) p) ⌝ }
 {
     match e {

@@ -11,7 +11,7 @@ use Rattle.book.specs.declared.Part.{Part}
 use Rattle.book.specs.declared.ChainParts.{ChainParts}
 use Rattle.book.specs.Book.{Record, Chain, Kind3, Found, Is, recordsOf, lookupAt, mostInput, mostRecords, lookupsOf}
 use Rattle.book.specs.Places.{partOf, chainOf, meant, isChain, foundIn, foundAt}
-use Rattle.book.specs.Inside.{Inside, Good}
+use Rattle.book.specs.Inside.{PartInside, EntryInside}
 use Rattle.book.specs.Finds.{found-is, found-inside}
 use Rattle.run.specs.declared.Given.{Given}
 use Rattle.run.specs.Repair.{Level, Sound}
@@ -34,10 +34,10 @@ use Rattle.run_cycle.specs.Levels.{Indexed}
 -- ---- the book
 
 -- a chain whose parts are good has few input values
-few-input : (ws : List ℕ) (c : ChainParts) → Inside (length ws) mostInput (c .input) → length (chainOf ws c .input) ≤ mostInput
+few-input : (ws : List ℕ) (c : ChainParts) → PartInside (length ws) mostInput (c .input) → length (chainOf ws c .input) ≤ mostInput
 few-input ws c i = simp (length-take, length-drop) (omega (arith, i .few))
 
-few-by : (ws : List ℕ) (e : Entry) (props : ℕ) (c : Chain ℕ) → Good (length ws) e → meant ws e ≡ Is (Kind3 props c) → length (c .input) ≤ mostInput
+few-by : (ws : List ℕ) (e : Entry) (props : ℕ) (c : Chain ℕ) → EntryInside (length ws) e → meant ws e ≡ Is (Kind3 props c) → length (c .input) ≤ mostInput
 few-by ws (Entry.Chain props′ parts) props c g e =
     let q : chainOf ws parts ≡ c = cc in
     subst (λ (k : Chain ℕ). length (k .input) ≤ mostInput) q (few-input ws parts (g .input))
@@ -49,7 +49,7 @@ module _ {ws starts : List ℕ} {count : ℕ} (x : Indexed ws starts count) wher
   pub entry-meant : (k : ℕ) → meant ws (foundIn ws starts count k) ≡ lookupAt k (lookupsOf ws)
   entry-meant k = ap (λ i. meant ws (foundAt ws i k)) (sym (x .is)) ∙ found-is ws (lookupsOf ws) k (x .reads)
 
-  pub entry-good : (k : ℕ) → Good (length ws) (foundIn ws starts count k)
+  pub entry-good : (k : ℕ) → EntryInside (length ws) (foundIn ws starts count k)
   entry-good k = found-inside ws starts count k
 
   pub book-fair : (given : Given) (sets : List ℕ) → Fair (ruled given sets) (lookupsOf ws)
@@ -127,7 +127,7 @@ module _ (given : Given) (sets ws : List ℕ) (depth : ℕ) (done coming : List 
     pub ordered : a .records .from ≤ a .records .to
     pub within : a .records .to ≤ length ws
 
-  opens-match : (records : Part) (m : Match) → aimAt records m .hit ≡ true → Fitting (textOf done coming (s .place)) m → Inside (length ws) (2 * mostRecords) records
+  opens-match : (records : Part) (m : Match) → aimAt records m .hit ≡ true → Fitting (textOf done coming (s .place)) m → PartInside (length ws) (2 * mostRecords) records
       → Opens (aimAt records m)
   opens-match records (Matched ps end) h fit i =
       let lv : Level = record { live = true; positions = ps; end = end } in
@@ -139,7 +139,7 @@ module _ (given : Given) (sets ws : List ℕ) (depth : ℕ) (done coming : List 
       }
   opens-match records Unmatched h fit i = let z : _≡_ {A = ℕ} 0 1 = cc in absurd (omega arith)
 
-  opens-by : (b : Entry) → Good (length ws) b → s .place .d < length (textOf done coming (s .place) .glyphs) → aimed b .hit ≡ true → Opens (aimed b)
+  opens-by : (b : Entry) → EntryInside (length ws) b → s .place .d < length (textOf done coming (s .place) .glyphs) → aimed b .hit ≡ true → Opens (aimed b)
   opens-by (Entry.Chain props c) g h y =
       opens-match (c .records) (matched props c) y
       (chain-fitting (asks given props) sets (textOf done coming (s .place)) h (idsOf (chainOf ws c)) (few-ids (chainOf ws c) (few-input ws c (g .input)))) (g .records)
@@ -155,7 +155,7 @@ module _ (given : Given) (sets ws : List ℕ) (depth : ℕ) (done coming : List 
     pub look-miss : isChain e ≡ true → a .hit ≡ false → runOf done coming s ≡ deedRun
     look-miss k h = miss-by e k (rw is at h)
 
-    pub aim-opens : Good (length ws) e → s .place .d < length (textOf done coming (s .place) .glyphs) → a .hit ≡ true → Opens a
+    pub aim-opens : EntryInside (length ws) e → s .place .d < length (textOf done coming (s .place) .glyphs) → a .hit ≡ true → Opens a
     aim-opens g h y = rw is (opens-by e g h (rw is at y))
 
 -- ---- a level that is shown

@@ -9,7 +9,7 @@ ghost use Rattle.text.specs.Text.{Fits};
 ghost use lib.ListN.{length};
 ghost use Rattle.book.specs.Book.{recordsOf, lookupsOf};
 ghost use Rattle.book.specs.Places.{meant};
-ghost use Rattle.book.specs.Inside.{Good};
+ghost use Rattle.book.specs.Inside.{EntryInside};
 ghost use Rattle.run.specs.Run.{chainRun, doneBy, mostAllowance};
 ghost use Rattle.run.specs.Deeds.{ruled};
 ghost use Rattle.run_step.specs.State.{runOf, stageOf, Ran, Able};
@@ -91,7 +91,7 @@ fn lookup(
     given: Given,
     depth: usize,
 ) -> State
-    requires { ⌜ Indexed (now book) (now starts) count × Good (length (now book)) e
+    requires { ⌜ Indexed (now book) (now starts) count × EntryInside (length (now book)) e
         × Fits (now done) (now coming) (s .place) × (s .place .idx < limit) × (s .left + s .spent ≤ mostAllowance) ⌝ }
     ensures { λ r. ⌜ Ran (now (done .exit)) (now (coming .exit)) r
         (doneBy (chainRun (ruled given (now (sets .entry))) (lookupsOf (now (book .entry))) depth) (ruled given (now (sets .entry)) .deed (meant (now (book .entry)) e))

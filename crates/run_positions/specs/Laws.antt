@@ -10,7 +10,7 @@ use lib.Seq.{length-take-le, getD-take, getD-drop, getD-append-add, ext-getD, ge
 use Rattle.glyph.specs.Glyph.{limit}
 use Rattle.matching.specs.Take.{slots}
 use Rattle.matching.specs.Answers.{slotted}
-use Rattle.run.specs.Repair.{Level, following, gained, lost, Rises, Sound}
+use Rattle.run.specs.Repair.{Level, following, withGain, withLoss, Rises, Sound}
 use Rattle.run.specs.Rises.{rises-at, length-following, length-gained, length-lost}
 use Rattle.run_positions.specs.declared.Slots.{Slots}
 use Rattle.run_positions.specs.Slots.{levelOf, shown, Neat, Placed}
@@ -109,15 +109,15 @@ module _ (ps : List ℕ) (i n : ℕ) (h : i < length ps) where
   lTF : length (T ++ F) ≡ suc i + n
   lTF = let a = lT in let b = length-following (getD ps i 0) n in simp length-append (omega arith)
 
-  pub gained-before : (j : ℕ) → j ≤ i → getD (gained i n ps) j 0 ≡ getD ps j 0
-  unfolding gained
+  pub gained-before : (j : ℕ) → j ≤ i → getD (withGain i n ps) j 0 ≡ getD ps j 0
+  unfolding withGain
   gained-before j l =
       let a = lT in
       let b = lTF in
       List·getD-append (T ++ F) U 0 j (omega arith) ∙ List·getD-append T F 0 j (omega arith) ∙ getD-take (suc i) ps j 0 (omega arith)
 
-  pub gained-new : (j : ℕ) → i < j → j ≤ i + n → getD (gained i n ps) j 0 ≡ getD ps i 0 + (j - i)
-  unfolding gained
+  pub gained-new : (j : ℕ) → i < j → j ≤ i + n → getD (withGain i n ps) j 0 ≡ getD ps i 0 + (j - i)
+  unfolding withGain
   gained-new j l m =
       let a = lT in
       let b = lTF in
@@ -127,42 +127,42 @@ module _ (ps : List ℕ) (i n : ℕ) (h : i < length ps) where
       List·getD-append (T ++ F) U 0 j (omega arith)
       ∙ ap (λ (x : ℕ). getD (T ++ F) x 0) e ∙ getD-append-add T F k 0 ∙ following-at (getD ps i 0) n k (omega arith) ∙ f
 
-  pub gained-later : (j : ℕ) → i + n < j → j < length ps + n → getD (gained i n ps) j 0 ≡ getD ps (j - n) 0 + n
-  unfolding gained
+  pub gained-later : (j : ℕ) → i + n < j → j < length ps + n → getD (withGain i n ps) j 0 ≡ getD ps (j - n) 0 + n
+  unfolding withGain
   gained-later j l m =
       let b = lTF in
       let k : ℕ = j - (suc i + n) in
       let e : j ≡ length (T ++ F) + k = omega arith in
       let q : suc i + k ≡ j - n = omega arith in
-      ap (λ (x : ℕ). getD (gained i n ps) x 0) e ∙ getD-append-add (T ++ F) U k 0
+      ap (λ (x : ℕ). getD (withGain i n ps) x 0) e ∙ getD-append-add (T ++ F) U k 0
       ∙ map-at (λ p. p + n) (drop (suc i) ps) k (omega (arith, length-drop (suc i) ps))
       ∙ ap (λ (x : ℕ). x + n) (getD-drop (suc i) ps k 0 ∙ ap (λ (x : ℕ). getD ps x 0) q)
 
-  pub gained-past : (j : ℕ) → length ps + n ≤ j → getD (gained i n ps) j 0 ≡ 0
-  gained-past j l = List·getD-eq-default (gained i n ps) 0 {n = j} (omega (arith, length-gained i n ps h))
+  pub gained-past : (j : ℕ) → length ps + n ≤ j → getD (withGain i n ps) j 0 ≡ 0
+  gained-past j l = List·getD-eq-default (withGain i n ps) 0 {n = j} (omega (arith, length-gained i n ps h))
 
   -- ---- a loss
 
   abbrev D : List ℕ
   D = drop n (drop (suc i) ps)
 
-  pub lost-before : (j : ℕ) → j ≤ i → getD (lost i n ps) j 0 ≡ getD ps j 0
-  unfolding lost
+  pub lost-before : (j : ℕ) → j ≤ i → getD (withLoss i n ps) j 0 ≡ getD ps j 0
+  unfolding withLoss
   lost-before j l = let a = lT in List·getD-append T (map (λ p. p - n) D) 0 j (omega arith) ∙ getD-take (suc i) ps j 0 (omega arith)
 
-  pub lost-later : (j : ℕ) → i < j → j + n < length ps → getD (lost i n ps) j 0 ≡ getD ps (j + n) 0 - n
-  unfolding lost
+  pub lost-later : (j : ℕ) → i < j → j + n < length ps → getD (withLoss i n ps) j 0 ≡ getD ps (j + n) 0 - n
+  unfolding withLoss
   lost-later j l m =
       let a = lT in
       let k : ℕ = j - suc i in
       let e : j ≡ length T + k = omega arith in
       let q : suc i + (n + k) ≡ j + n = omega arith in
       let s : k < length D = omega (arith, length-drop n (drop (suc i) ps), length-drop (suc i) ps) in
-      ap (λ (x : ℕ). getD (lost i n ps) x 0) e ∙ getD-append-add T (map (λ p. p - n) D) k 0 ∙ map-at (λ p. p - n) D k s
+      ap (λ (x : ℕ). getD (withLoss i n ps) x 0) e ∙ getD-append-add T (map (λ p. p - n) D) k 0 ∙ map-at (λ p. p - n) D k s
       ∙ ap (λ (x : ℕ). x - n) (getD-drop n (drop (suc i) ps) k 0 ∙ getD-drop (suc i) ps (n + k) 0 ∙ ap (λ (x : ℕ). getD ps x 0) q)
 
-  pub lost-past : (j : ℕ) → n ≤ length ps - suc i → length ps ≤ j + n → getD (lost i n ps) j 0 ≡ 0
-  lost-past j k l = List·getD-eq-default (lost i n ps) 0 {n = j} (omega (arith, length-lost i n ps h k))
+  pub lost-past : (j : ℕ) → n ≤ length ps - suc i → length ps ≤ j + n → getD (withLoss i n ps) j 0 ≡ 0
+  lost-past j k l = List·getD-eq-default (withLoss i n ps) 0 {n = j} (omega (arith, length-lost i n ps h k))
 
 -- ---- the same of slots, with the tests that the code makes
 
@@ -176,37 +176,37 @@ module _ (at : List ℕ) (count i n : ℕ) (p : Placed at count) (h : i < count)
   at-is : (k : ℕ) → k < count → getD (take count at) k 0 ≡ getD at k 0
   at-is k l = getD-take count at k 0 l
 
-  pub gain-before : (j : ℕ) → j ≤ i → getD at j 0 ≡ getD (gained i n (take count at)) j 0
+  pub gain-before : (j : ℕ) → j ≤ i → getD at j 0 ≡ getD (withGain i n (take count at)) j 0
   gain-before j l = sym (gained-before ps i n (omega (arith, size-is)) j l ∙ at-is j (omega arith))
 
-  pub gain-new : (j : ℕ) → i < j → j ≤ i + n → getD at i 0 + (j - i) ≡ getD (gained i n (take count at)) j 0
+  pub gain-new : (j : ℕ) → i < j → j ≤ i + n → getD at i 0 + (j - i) ≡ getD (withGain i n (take count at)) j 0
   gain-new j l m = sym (gained-new ps i n (omega (arith, size-is)) j l m ∙ ap (λ (x : ℕ). x + (j - i)) (at-is i h))
 
-  pub gain-later : (j : ℕ) → i + n < j → j < count + n → getD at (j - n) 0 + n ≡ getD (gained i n (take count at)) j 0
+  pub gain-later : (j : ℕ) → i + n < j → j < count + n → getD at (j - n) 0 + n ≡ getD (withGain i n (take count at)) j 0
   gain-later j l m = sym (gained-later ps i n (omega (arith, size-is)) j l (omega (arith, size-is)) ∙ ap (λ (x : ℕ). x + n) (at-is (j - n) (omega arith)))
 
-  pub gain-past : (j : ℕ) → count + n ≤ j → 0 ≡ getD (gained i n (take count at)) j 0
+  pub gain-past : (j : ℕ) → count + n ≤ j → 0 ≡ getD (withGain i n (take count at)) j 0
   gain-past j l = sym (gained-past ps i n (omega (arith, size-is)) j (omega (arith, size-is)))
 
-  pub loss-before : (j : ℕ) → j ≤ i → getD at j 0 ≡ getD (lost i n (take count at)) j 0
+  pub loss-before : (j : ℕ) → j ≤ i → getD at j 0 ≡ getD (withLoss i n (take count at)) j 0
   loss-before j l = sym (lost-before ps i n (omega (arith, size-is)) j l ∙ at-is j (omega arith))
 
-  pub loss-later : (j : ℕ) → i < j → j + n < count → getD at (j + n) 0 - n ≡ getD (lost i n (take count at)) j 0
+  pub loss-later : (j : ℕ) → i < j → j + n < count → getD at (j + n) 0 - n ≡ getD (withLoss i n (take count at)) j 0
   loss-later j l m = sym (lost-later ps i n (omega (arith, size-is)) j l (omega (arith, size-is)) ∙ ap (λ (x : ℕ). x - n) (at-is (j + n) m))
 
-  pub loss-past : (j : ℕ) → n ≤ count - (i + 1) → count ≤ j + n → 0 ≡ getD (lost i n (take count at)) j 0
+  pub loss-past : (j : ℕ) → n ≤ count - (i + 1) → count ≤ j + n → 0 ≡ getD (withLoss i n (take count at)) j 0
   loss-past j k l = sym (lost-past ps i n (omega (arith, size-is)) j (omega (arith, size-is)) (omega (arith, size-is)))
 
-  pub gain-few : count + n ≤ slots → length (gained i n (take count at)) ≤ slots
+  pub gain-few : count + n ≤ slots → length (withGain i n (take count at)) ≤ slots
   gain-few l = omega (arith, length-gained i n ps (omega (arith, size-is)), size-is)
 
-  pub gain-long : length (gained i n (take count at)) ≡ count + n
+  pub gain-long : length (withGain i n (take count at)) ≡ count + n
   gain-long = omega (arith, length-gained i n ps (omega (arith, size-is)), size-is)
 
-  pub loss-few : n ≤ count - (i + 1) → length (lost i n (take count at)) ≤ slots
+  pub loss-few : n ≤ count - (i + 1) → length (withLoss i n (take count at)) ≤ slots
   loss-few k = omega (arith, length-lost i n ps (omega (arith, size-is)) (omega (arith, size-is)), size-is, p .few)
 
-  pub loss-long : n ≤ count - (i + 1) → length (lost i n (take count at)) ≡ count - n
+  pub loss-long : n ≤ count - (i + 1) → length (withLoss i n (take count at)) ≡ count - n
   loss-long k = omega (arith, length-lost i n ps (omega (arith, size-is)) (omega (arith, size-is)), size-is)
 
 module _ (idx d : ℕ) (places : List ℕ) (count : ℕ) (all : length places ≡ slots) (few : count ≤ slots) where

@@ -12,7 +12,7 @@ use lib.Seq.{getD-take}
 use Rattle.glyph.specs.Glyph.{limit}
 use Rattle.matching.specs.Take.{slots}
 use Rattle.matching.specs.Answers.{slotted}
-use Rattle.run.specs.Repair.{Level, gained, lost, grownBy, shrunkBy, raisedTo, heldBack, repaired, Sound}
+use Rattle.run.specs.Repair.{Level, withGain, withLoss, grownBy, shrunkBy, raisedTo, heldBack, repaired, Sound}
 use Rattle.run.specs.Rises.{length-gained, length-lost, rises-at}
 use Rattle.run_positions.specs.declared.Slots.{Slots}
 use Rattle.run_positions.specs.Slots.{levelOf, shown, Neat, Placed}
@@ -27,12 +27,12 @@ module _ (s : Slots) (i n : ℕ) (p : Placed (s .at) (s .count)) (h : i < s .cou
   sized = size-is (s .at) (s .count) i n p h
 
   pub grown-fits : s .count + n ≤ slots
-      → _≡_ {A = Slots} (record { live = s .live; end = s .end + n; count = s .count + n; at = slotted (gained i n (take (s .count) (s .at))) }) (shown (grownBy i n (levelOf s)))
+      → _≡_ {A = Slots} (record { live = s .live; end = s .end + n; count = s .count + n; at = slotted (withGain i n (take (s .count) (s .at))) }) (shown (grownBy i n (levelOf s)))
   unfolding grownBy
   grown-fits l =
-      let e : s .count + n ≡ length (gained i n (take (s .count) (s .at))) = omega (arith, sized, length-gained i n (take (s .count) (s .at)) (omega (arith, sized))) in
+      let e : s .count + n ≡ length (withGain i n (take (s .count) (s .at))) = omega (arith, sized, length-gained i n (take (s .count) (s .at)) (omega (arith, sized))) in
       rw (le-leb (length (take (s .count) (s .at)) + n) slots (omega (arith, sized)))
-      (λ j. record { live = s .live; end = s .end + n; count = e j; at = slotted (gained i n (take (s .count) (s .at))) })
+      (λ j. record { live = s .live; end = s .end + n; count = e j; at = slotted (withGain i n (take (s .count) (s .at))) })
 
   pub grown-stops : Neat s → slots < s .count + n
       → _≡_ {A = Slots} (record { live = false; end = s .end + n; count = s .count; at = s .at }) (shown (grownBy i n (levelOf s)))
@@ -44,12 +44,12 @@ module _ (s : Slots) (i n : ℕ) (p : Placed (s .at) (s .count)) (h : i < s .cou
   after-own : s .count - (i + 1) ≡ length (take (s .count) (s .at)) - suc i
   after-own = omega (arith, sized)
 
-  left-over : (gone : ℕ) → gone ≤ length (take (s .count) (s .at)) - suc i → s .count - gone ≡ length (lost i gone (take (s .count) (s .at)))
+  left-over : (gone : ℕ) → gone ≤ length (take (s .count) (s .at)) - suc i → s .count - gone ≡ length (withLoss i gone (take (s .count) (s .at)))
   left-over gone w = ap (λ (x : ℕ). x - gone) (sym sized) ∙ sym (length-lost i gone (take (s .count) (s .at)) (omega (arith, sized)) w)
 
   -- `back` and `gone` as the code finds them
   pub shrunk-is : (back gone : ℕ) → back ≡ min n (s .end - getD (s .at) i 0) → gone ≡ min back (s .count - (i + 1))
-      → _≡_ {A = Slots} (record { live = s .live; end = s .end - back; count = s .count - gone; at = slotted (lost i gone (take (s .count) (s .at))) }) (shown (shrunkBy i n (levelOf s)))
+      → _≡_ {A = Slots} (record { live = s .live; end = s .end - back; count = s .count - gone; at = slotted (withLoss i gone (take (s .count) (s .at))) }) (shown (shrunkBy i n (levelOf s)))
   unfolding shrunkBy
   shrunk-is back gone b g =
       let o : getD (take (s .count) (s .at)) i 0 ≡ getD (s .at) i 0 = getD-take (s .count) (s .at) i 0 h in
@@ -57,9 +57,9 @@ module _ (s : Slots) (i n : ℕ) (p : Placed (s .at) (s .count)) (h : i < s .cou
       let c : s .count - (i + 1) ≡ length (take (s .count) (s .at)) - suc i = after-own in
       let g′ : gone ≡ heldBack i n (levelOf s) = g ∙ ap (λ (x : ℕ). min x (s .count - (i + 1))) b′ ∙ ap (λ (x : ℕ). min (raisedTo i n (levelOf s)) x) c in
       let w : gone ≤ length (take (s .count) (s .at)) - suc i = rw c at (at-most back (s .count - (i + 1)) gone g) in
-      let k : s .count - gone ≡ length (lost i gone (take (s .count) (s .at))) = left-over gone w in
-      (λ j. record { live = s .live; end = s .end - b′ j; count = k j; at = slotted (lost i gone (take (s .count) (s .at))) })
-      ∙ ap (λ (x : ℕ). shown (record { live = s .live; positions = lost i x (take (s .count) (s .at)); end = s .end - raisedTo i n (levelOf s) })) g′
+      let k : s .count - gone ≡ length (withLoss i gone (take (s .count) (s .at))) = left-over gone w in
+      (λ j. record { live = s .live; end = s .end - b′ j; count = k j; at = slotted (withLoss i gone (take (s .count) (s .at))) })
+      ∙ ap (λ (x : ℕ). shown (record { live = s .live; positions = withLoss i x (take (s .count) (s .at)); end = s .end - raisedTo i n (levelOf s) })) g′
 
 -- ---- an opening
 

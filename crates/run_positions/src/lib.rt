@@ -5,7 +5,7 @@ ghost use Prim.Native.Nat.{_+_, _-_, _≤_, _<_, min};
 ghost use lib.ListN.{length, getD, take};
 ghost use Rattle.glyph.specs.Glyph.{limit};
 ghost use Rattle.matching.specs.Answers.{slotted};
-ghost use Rattle.run.specs.Repair.{gained, lost, grownBy, shrunkBy, repaired, Sound};
+ghost use Rattle.run.specs.Repair.{withGain, withLoss, grownBy, shrunkBy, repaired, Sound};
 ghost use Rattle.run_positions.specs.Slots.{Placed, levelOf, shown, Neat};
 ghost use Rattle.run.specs.Run.{fromDone, movedLevel};
 
@@ -84,7 +84,7 @@ fn least(a: usize, b: usize) -> usize
 // The positions after a gain of n at position i.
 fn gained_slots(at: &[u16; 64], i: usize, n: usize, count: usize) -> [u16; 64]
     requires { ⌜ Placed (now at) count × (i < count) × (count + n ≤ 64) ⌝ }
-    ensures { λ r. ⌜ r ≡ slotted (gained i n (take count (now (at .entry)))) ⌝ }
+    ensures { λ r. ⌜ r ≡ slotted (withGain i n (take count (now (at .entry)))) ⌝ }
 {
     let all = count + n;
     let mut out = [0u16; 64];
@@ -98,7 +98,7 @@ fn gained_slots(at: &[u16; 64], i: usize, n: usize, count: usize) -> [u16; 64]
 
 fn gained_slot(at: &[u16; 64], i: usize, n: usize, count: usize, j: usize) -> u16
     requires { ⌜ Placed (now at) count × (i < count) × (count + n ≤ 64) × (j < 64) ⌝ }
-    ensures { λ r. ⌜ r ≡ getD (gained i n (take count (now (at .entry)))) j 0 ⌝ }
+    ensures { λ r. ⌜ r ≡ getD (withGain i n (take count (now (at .entry)))) j 0 ⌝ }
 {
     if j <= i {
         return at[j];
@@ -115,7 +115,7 @@ fn gained_slot(at: &[u16; 64], i: usize, n: usize, count: usize, j: usize) -> u1
 // The positions after a loss of n at position i.
 fn lost_slots(at: &[u16; 64], i: usize, n: usize, count: usize) -> [u16; 64]
     requires { ⌜ Placed (now at) count × (i < count) × (n ≤ count - (i + 1)) ⌝ }
-    ensures { λ r. ⌜ r ≡ slotted (lost i n (take count (now (at .entry)))) ⌝ }
+    ensures { λ r. ⌜ r ≡ slotted (withLoss i n (take count (now (at .entry)))) ⌝ }
 {
     let all = count - n;
     let mut out = [0u16; 64];
@@ -129,7 +129,7 @@ fn lost_slots(at: &[u16; 64], i: usize, n: usize, count: usize) -> [u16; 64]
 
 fn lost_slot(at: &[u16; 64], own: usize, n: usize, count: usize, j: usize) -> u16
     requires { ⌜ Placed (now at) count × (own < count) × (n ≤ count - (own + 1)) × (j < 64) ⌝ }
-    ensures { λ r. ⌜ r ≡ getD (lost own n (take count (now (at .entry)))) j 0 ⌝ }
+    ensures { λ r. ⌜ r ≡ getD (withLoss own n (take count (now (at .entry)))) j 0 ⌝ }
 {
     if j <= own {
         return at[j];

@@ -10,16 +10,16 @@ use Rattle.run_calls.specs.declared.RunAnswer.{RunAnswer}
 use Rattle.run_calls.specs.Calls.{Handed, checkedAll, runSays}
 use Rattle.run_calls.specs.Decided.{SameRun, run-decided}
 use Rattle.run_record_structs.specs.declared.Record.{Record}
-use Rattle.run_record_structs.specs.Records.{wordsOf}
+use Rattle.run_record_structs.specs.Records.{recordWords}
 use Rattle.run_record_structs.specs.Laws.{SaidOf}
 
 module _ (done coming : List ℕ) (place : Place) (sets book : List ℕ) (m : InputMatch) (given : Given) (allowance depth : ℕ) where
-  pub as-the-words : (rs : List Record) (words : List ℕ) → words ≡ wordsOf rs
+  pub as-the-words : (rs : List Record) (words : List ℕ) → words ≡ recordWords rs
       → (done′ coming′ : List ℕ) (r : RunAnswer) (done″ coming″ : List ℕ) (r′ : RunAnswer) → Small done′ → Small coming′ → Small done″ → Small coming″
-      → SaidOf done coming place sets book m given allowance depth done′ coming′ r (wordsOf rs)
+      → SaidOf done coming place sets book m given allowance depth done′ coming′ r (recordWords rs)
       → SaidOf done coming place sets book m given allowance depth done″ coming″ r′ words
       → SameRun done′ coming′ r done″ coming″ r′
   as-the-words rs words e done′ coming′ r done″ coming″ r′ a b a′ b′ structs as-words =
-      let h : Handed = record { done = done; coming = coming; place = place; sets = sets; book = book; records = wordsOf rs; match = m; given = given } in
+      let h : Handed = record { done = done; coming = coming; place = place; sets = sets; book = book; records = recordWords rs; match = m; given = given } in
       run-decided (checkedAll h allowance depth) (runSays h allowance depth) done coming done′ coming′ r done″ coming″ r′ a b a′ b′ structs
       (subst (SaidOf done coming place sets book m given allowance depth done″ coming″ r′) e as-words)

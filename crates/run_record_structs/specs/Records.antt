@@ -11,37 +11,37 @@ use Rattle.run_record_structs.specs.declared.Record.{Record}
 use Rattle.run_record_structs.specs.declared.Pairs.{Pairs}
 
 -- the words of records, pair after pair
-unfoldable pub wordsOf : List Record → List ℕ
-wordsOf [] = []
-wordsOf (r ∷ rs) = r .sequence ∷ r .lookup ∷ wordsOf rs
+unfoldable pub recordWords : List Record → List ℕ
+recordWords [] = []
+recordWords (r ∷ rs) = r .sequence ∷ r .lookup ∷ recordWords rs
 
 -- the record of a run that a struct is
-abbrev pub meant : Record → book.Record
-meant r = record { seq = r .sequence; lookup = r .lookup }
+abbrev pub recordMeant : Record → book.Record
+recordMeant r = record { seq = r .sequence; lookup = r .lookup }
 
 -- ---- the code's side: the first records as words in an array
 
 -- over 16 records is refused (01, refusal 1): with one more than that kept, too many stay too many
-abbrev pub mostKept : ℕ
-mostKept = mostRecords + 1
+abbrev pub mostPairs : ℕ
+mostPairs = mostRecords + 1
 
 -- how many of n records are kept
-unfoldable pub kept : ℕ → ℕ
-kept n = cond (leb mostKept n) mostKept n
+unfoldable pub pairsKept : ℕ → ℕ
+pairsKept n = cond (leb mostPairs n) mostPairs n
 
 -- what would stand past the last record
-abbrev pub none : Record
-none = record { sequence = 0; lookup = 0 }
+abbrev pub noRecord : Record
+noRecord = record { sequence = 0; lookup = 0 }
 
-abbrev pub empty : Pairs
-empty = record { n = 0; words = replicate (2 * mostKept) 0 }
+abbrev pub noPairs : Pairs
+noPairs = record { n = 0; words = replicate (2 * mostPairs) 0 }
 
 -- one more pair
-abbrev pub added : Pairs → Record → Pairs
-added p r = record { n = p .n + 1; words = set (set (p .words) (2 * p .n) (r .sequence)) (2 * p .n + 1) (r .lookup) }
+abbrev pub withPair : Pairs → Record → Pairs
+withPair p r = record { n = p .n + 1; words = set (set (p .words) (2 * p .n) (r .sequence)) (2 * p .n + 1) (r .lookup) }
 
 -- an array that begins with the words of these records
 pub record Filled (rs : List Record) (p : Pairs) : Type 0 where
   pub number : p .n ≡ length rs
-  pub room : length (p .words) ≡ 2 * mostKept
-  pub words : take (2 * p .n) (p .words) ≡ wordsOf rs
+  pub room : length (p .words) ≡ 2 * mostPairs
+  pub words : take (2 * p .n) (p .words) ≡ recordWords rs

@@ -6,7 +6,7 @@ ghost use mathlib.Core.Path.{_≡_};
 ghost use Prim.Native.Nat.{_*_, _<_, _≤_};
 ghost use lib.ListN.{length, getD, take};
 ghost use Rattle.run_calls.specs.Calls.{Said};
-ghost use Rattle.run_record_structs.specs.Records.{wordsOf, mostKept, kept, none, empty, added, Filled};
+ghost use Rattle.run_record_structs.specs.Records.{recordWords, mostPairs, pairsKept, noRecord, noPairs, withPair, Filled};
 
 // Which position of the match, and which lookup of the book.
 pub struct Record {
@@ -37,7 +37,7 @@ pub fn run(
       place = record { d = d; idx = idx };
       sets = now (sets .entry);
       book = now (book .entry);
-      records = wordsOf (now (records .entry));
+      records = recordWords (now (records .entry));
       match = matched;
       given = given;
     }) allowance depth (now (done .exit)) (now (coming .exit)) r ⌝ }
@@ -78,7 +78,7 @@ fn run_pairs(
     allowance: u32,
     depth: usize,
 ) -> RunAnswer
-    requires { ⌜ (pairs .n ≤ mostKept) × (length (pairs .words) ≡ 2 * mostKept) ⌝ }
+    requires { ⌜ (pairs .n ≤ mostPairs) × (length (pairs .words) ≡ 2 * mostPairs) ⌝ }
     ensures { λ r. ⌜ Said (record {
       done = now (done .entry);
       coming = now (coming .entry);
@@ -109,7 +109,7 @@ fn run_pairs(
 
 // As many records as are kept, read one by one.
 fn pairs_of(records: &[Record]) -> Pairs
-    ensures { λ r. ⌜ Filled (take (kept (length (now (records .entry)))) (now (records .entry))) r ⌝ }
+    ensures { λ r. ⌜ Filled (take (pairsKept (length (now (records .entry)))) (now (records .entry))) r ⌝ }
 {
     let n = at_most(records.len());
     let mut p = none_yet();
@@ -124,7 +124,7 @@ fn pairs_of(records: &[Record]) -> Pairs
 
 // How many of n records are kept.
 fn at_most(n: usize) -> usize
-    ensures { λ r. ⌜ r ≡ kept n ⌝ }
+    ensures { λ r. ⌜ r ≡ pairsKept n ⌝ }
 {
     if KEPT <= n {
         return KEPT;
@@ -133,7 +133,7 @@ fn at_most(n: usize) -> usize
 }
 
 fn none_yet() -> Pairs
-    ensures { λ r. ⌜ r ≡ empty ⌝ }
+    ensures { λ r. ⌜ r ≡ noPairs ⌝ }
 {
     Pairs {
         n: 0,
@@ -144,15 +144,15 @@ fn none_yet() -> Pairs
 // The thin reader: the record at a place.
 fn record_at(records: &[Record], i: usize) -> Record
     requires { ⌜ i < length (now records) ⌝ }
-    ensures { λ r. ⌜ r ≡ getD (now (records .entry)) i none ⌝ }
+    ensures { λ r. ⌜ r ≡ getD (now (records .entry)) i noRecord ⌝ }
 {
     records[i]
 }
 
 // One more pair.
 fn add(p: Pairs, r: Record) -> Pairs
-    requires { ⌜ p .n < mostKept ⌝ }
-    ensures { λ q. ⌜ q ≡ added p r ⌝ }
+    requires { ⌜ p .n < mostPairs ⌝ }
+    ensures { λ q. ⌜ q ≡ withPair p r ⌝ }
 {
     let n = p.n;
     let mut words = p.words;

@@ -8,7 +8,7 @@ ghost use Prim.Native.Nat.{_+_, _-_, _≤_, _<_};
 ghost use lib.ListN.{length};
 ghost use Rattle.glyph.specs.Glyph.{limit};
 ghost use Rattle.text.specs.Text.{textOf, sizeOf, Fits};
-ghost use Rattle.book.specs.Inside.{Good};
+ghost use Rattle.book.specs.Inside.{EntryInside};
 ghost use Rattle.run_positions.specs.Slots.{levelOf, Neat};
 ghost use Rattle.run_step.specs.State.{runOf, stageOf, Ran, Able, at, isDueAt, begunAt, partedAt, endedAs, spentAs, stoppedAs, judgedAt, readied, Prepared, closedAt, oneOn, manyOn, actedBy};
 ghost use Rattle.run.specs.Run.{mostAllowance};
@@ -214,7 +214,7 @@ fn act_many(done: &mut [u32], coming: &[u32], s: State, from: u32, ids: &[u16]) 
 
 // Kinds 1 and 2; any other entry does nothing here. `coming` is lent as the cycle has it, to write to; these two only read it.
 pub fn act(done: &mut [u32], coming: &mut [u32], book: &[u16], e: Entry, s: State) -> State
-    requires { ⌜ Fits (now done) (now coming) (s .place) × (s .place .idx < limit) × Good (length (now book)) e ⌝ }
+    requires { ⌜ Fits (now done) (now coming) (s .place) × (s .place .idx < limit) × EntryInside (length (now book)) e ⌝ }
     ensures { λ r. ⌜ Ran (now (done .exit)) (now (coming .exit)) r (actedBy (now (book .entry)) e (runOf (now (done .entry)) (now (coming .entry)) s)) ⌝ }
 {
     match e {

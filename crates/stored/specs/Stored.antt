@@ -7,12 +7,12 @@ use lib.Dec.{leb}
 use lib.ListN.{length, getD, take, drop}
 
 -- what a digit stands for; any other byte, 0
-abbrev pub digit : ℕ → ℕ
-digit b = cond (leb 48 b && leb b 57) (b - 48) (cond (leb 65 b && leb b 70) (b - 55) 0)
+abbrev pub hexDigit : ℕ → ℕ
+hexDigit b = cond (leb 48 b && leb b 57) (b - 48) (cond (leb 65 b && leb b 70) (b - 55) 0)
 
 -- the two digits from byte i on
 abbrev pub byteAt : List ℕ → ℕ → ℕ
-byteAt text i = digit (getD text i 0) * 16 + digit (getD text (i + 1) 0)
+byteAt text i = hexDigit (getD text i 0) * 16 + hexDigit (getD text (i + 1) 0)
 
 -- the eight digits from byte i on
 abbrev pub wordFrom : List ℕ → ℕ → ℕ
@@ -20,14 +20,14 @@ wordFrom text i =
     ((byteAt text i * 256 + byteAt text (i + 2)) * 256 + byteAt text (i + 4)) * 256 + byteAt text (i + 6)
 
 -- word k of a text
-unfoldable pub wordAt : List ℕ → ℕ → ℕ
-wordAt text k = wordFrom text (k * 9)
+unfoldable pub storedWord : List ℕ → ℕ → ℕ
+storedWord text k = wordFrom text (k * 9)
 
 -- a number of 64 bits in two words, the high one first
 abbrev pub numberAt : List ℕ → ℕ → ℕ
 numberAt words k = getD words k 0 * 4294967296 + getD words (k + 1) 0
 
 -- the words from one place up to another; none where there is no such part
-abbrev pub partOf : ℕ → ℕ → List ℕ → List ℕ
-partOf from to words =
+abbrev pub partBetween : ℕ → ℕ → List ℕ → List ℕ
+partBetween from to words =
     cond (leb to (length words)) (cond (leb from to) (take (to - from) (drop from words)) []) []

@@ -5,11 +5,11 @@ ghost use Prim.Native.Nat.{ℕ, _+_, _*_, _/_, _%_, _≤_, _<_, min};
 ghost use lib.Dec.{ltb};
 ghost use lib.ListN.{length, getD};
 ghost use Rattle.io.specs.Counts.{Counts};
-ghost use Rattle.stored.specs.Stored.{digit, byteAt, wordFrom, wordAt, numberAt, partOf};
+ghost use Rattle.stored.specs.Stored.{hexDigit, byteAt, wordFrom, storedWord, numberAt, partBetween};
 
 // The words of a text, as far as they fit, and how many there are. What stands past them stays.
 pub fn decode(text: &[u8], words: &mut [u32]) -> usize
-    ensures { λ r. ⌜ (r ≡ min (length (now (text .entry)) / 9) (length (now (words .entry)))) × ((k : ℕ) → getD (now (words .exit)) k 0 ≡ cond (ltb k r) (wordAt (now (text .entry)) k) (getD (now (words .entry)) k 0)) ⌝ }
+    ensures { λ r. ⌜ (r ≡ min (length (now (text .entry)) / 9) (length (now (words .entry)))) × ((k : ℕ) → getD (now (words .exit)) k 0 ≡ cond (ltb k r) (storedWord (now (text .entry)) k) (getD (now (words .entry)) k 0)) ⌝ }
 {
     let n = least(text.len() / 9, words.len());
     let mut k = 0;
@@ -46,7 +46,7 @@ fn wide(x: u32) -> u64
 
 // The words from one place up to another, and none where there is no such part.
 pub fn part(words: &[u32], from: usize, to: usize) -> &[u32]
-    ensures { λ r. ⌜ now r ≡ partOf from to (now (words .entry)) ⌝ }
+    ensures { λ r. ⌜ now r ≡ partBetween from to (now (words .entry)) ⌝ }
 {
     if words.len() < to {
         return &words[0..0];
@@ -96,7 +96,7 @@ fn byte(text: &[u8], i: usize) -> u32
 
 // What a digit stands for.
 fn hex(b: u8) -> u32
-    ensures { λ r. ⌜ (r ≡ digit b) × (r < 16) ⌝ }
+    ensures { λ r. ⌜ (r ≡ hexDigit b) × (r < 16) ⌝ }
 {
     if (48 <= b) & (b <= 57) {
         return (b - 48) as u32;

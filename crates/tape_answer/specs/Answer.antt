@@ -5,25 +5,25 @@ use lib.ListN.{length}
 use Rattle.glyph.specs.Glyph.{words}
 use Rattle.verdict.specs.declared.Test.{Test}
 use Rattle.verdict.specs.Verdict.{valueBy}
-use Rattle.matching.specs.declared.Lookup.{Lookup}
+use Rattle.matching.specs.declared.Terms.{Terms}
 use Rattle.matching.specs.declared.InputMatch.{InputMatch}
 use Rattle.matching.specs.Answers.{inputReply}
 use Rattle.matching_calls.specs.Calls.{inputOf}
-use Rattle.tape_frame.specs.Frame.{Frame, Reading, that, none, frameOf}
-use Rattle.tape_answer.specs.Line.{answerBytes, noFrame, ended}
+use Rattle.tape_frame.specs.Frame.{Frame, LineRead, aFrame, notFrame, frameOf}
+use Rattle.tape_answer.specs.Line.{answerBytes, noFrame, withNewline}
 
-abbrev pub lookupOf : Frame → Lookup
-lookupOf f = record { settings = f .settings; mask = f .mask; props = f .props }
+abbrev pub frameTerms : Frame → Terms
+frameTerms f = record { settings = f .settings; mask = f .mask; props = f .props }
 
 -- every record of both rows counts, and a value matches an equal id
-unfoldable pub matchOf : Frame → InputMatch
-matchOf f =
-    inputOf (f .done) (length (f .done) / words) (f .coming) (length (f .coming) / words) (f .cursor) (lookupOf f) [] (valueBy Test.Equal []) (f .values)
+unfoldable pub frameMatch : Frame → InputMatch
+frameMatch f =
+    inputOf (f .done) (length (f .done) / words) (f .coming) (length (f .coming) / words) (f .cursor) (frameTerms f) [] (valueBy Test.Equal []) (f .values)
 
-abbrev pub answerTo : Reading → List ℕ
-answerTo (that f) = answerBytes (inputReply (matchOf f))
-answerTo none = noFrame
+abbrev pub answerTo : LineRead → List ℕ
+answerTo (aFrame f) = answerBytes (inputReply (frameMatch f))
+answerTo notFrame = noFrame
 
 -- with its 0A, to a line without
 unfoldable pub answerLine : List ℕ → List ℕ
-answerLine line = ended (answerTo (frameOf line))
+answerLine line = withNewline (answerTo (frameOf line))

@@ -14,13 +14,13 @@ use Rattle.matching.specs.Take.{slots}
 use Rattle.glyph.specs.Glyph.{words}
 use Rattle.tape_frame.specs.declared.Head.{Head}
 use Rattle.tape_frame.specs.declared.Decoded.{Decoded}
-use Rattle.tape_answer.specs.Answer.{matchOf, answerLine}
+use Rattle.tape_answer.specs.Answer.{frameMatch, answerLine}
 use Rattle.tape_answer.specs.Asking.{asked}
-use Rattle.tape_frame.specs.Frame.{mostValues, mostRecords, Reading, frameOf}
+use Rattle.tape_frame.specs.Frame.{mostValues, mostGlyphs, LineRead, frameOf}
 use Rattle.tape_frame.specs.Decoding.{valuesOf, doneOf, comingOf, Decodes}
-use Rattle.tape_frame.specs.DecodingLaws.{Told, told-bounded}
+use Rattle.tape_frame.specs.DecodingLaws.{FrameTold, told-bounded}
 use Rattle.tape_frame.specs.Line.{half}
-use Rattle.tape_answer.specs.Line.{halves, matchedBytes, answerBytes, ended}
+use Rattle.tape_answer.specs.Line.{halves, matchedBytes, answerBytes, withNewline}
 use Rattle.tape_frame.specs.Put.{put, front-put}
 
 pub le-or-lt : (a b : ℕ) → (a ≤ b) ⊎ (b < a)
@@ -65,16 +65,16 @@ module _ (m : InputMatch) where
 
 -- ---- the answer to a line by what it was decoded to
 
-module _ (l : List ℕ) (h : Head) (t : Told (frameOf l) h) where
+module _ (l : List ℕ) (h : Head) (t : FrameTold (frameOf l) h) where
   -- a list that was stored at the front of a slice with room for it
   stored : (v v′ s : List ℕ) (n : ℕ) → v′ ≡ put v 0 s → n ≡ length s → n ≤ length v → take n v′ ≡ s
   stored v v′ s n e k m = ap (take n) e ∙ front-put v s n (sym k) (omega arith)
 
   -- asking with what was stored is asking what the frame asks
   pub told-answer : (a : Decoded) (v v′ d d′ c c′ : List ℕ) → Decodes (frameOf l) a v v′ d d′ c c′
-      → length v ≡ mostValues → length d ≡ words * mostRecords → length c ≡ words * mostRecords
-      → ended (answerBytes (inputReply (asked h (take (h .values) v′) (take (h .done) d′) (take (h .coming) c′)))) ≡ answerLine l
-  unfolding answerLine asked matchOf
+      → length v ≡ mostValues → length d ≡ words * mostGlyphs → length c ≡ words * mostGlyphs
+      → withNewline (answerBytes (inputReply (asked h (take (h .values) v′) (take (h .done) d′) (take (h .coming) c′)))) ≡ answerLine l
+  unfolding answerLine asked frameMatch
   told-answer a v v′ d d′ c c′ s lv ld lc =
       let f = t .frame in
       let b = told-bounded l h t in
@@ -82,9 +82,9 @@ module _ (l : List ℕ) (h : Head) (t : Told (frameOf l) h) where
       let nd : h .done ≡ length (f .done) = ap (λ (x : Head). x .done) (t .head) in
       let nc : h .coming ≡ length (f .coming) = ap (λ (x : Head). x .coming) (t .head) in
       let ev : take (h .values) v′ ≡ f .values =
-      stored v v′ (f .values) (h .values) (s .values ∙ ap (λ (r : Reading). put v 0 (valuesOf r)) (t .is)) nv (omega (arith, b .values)) in
+      stored v v′ (f .values) (h .values) (s .values ∙ ap (λ (r : LineRead). put v 0 (valuesOf r)) (t .is)) nv (omega (arith, b .values)) in
       let ed : take (h .done) d′ ≡ f .done =
-      stored d d′ (f .done) (h .done) (s .done ∙ ap (λ (r : Reading). put d 0 (doneOf r)) (t .is)) nd (omega (arith, b .done)) in
+      stored d d′ (f .done) (h .done) (s .done ∙ ap (λ (r : LineRead). put d 0 (doneOf r)) (t .is)) nd (omega (arith, b .done)) in
       let ec : take (h .coming) c′ ≡ f .coming =
-      stored c c′ (f .coming) (h .coming) (s .coming ∙ ap (λ (r : Reading). put c 0 (comingOf r)) (t .is)) nc (omega (arith, b .coming)) in
+      stored c c′ (f .coming) (h .coming) (s .coming ∙ ap (λ (r : LineRead). put c 0 (comingOf r)) (t .is)) nc (omega (arith, b .coming)) in
       rw (ev, ed, ec, t .is, t .head)

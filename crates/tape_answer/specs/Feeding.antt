@@ -35,10 +35,10 @@ answersIn line [] = []
 answersIn line (b ∷ rest) = answerAt line b ++ answersIn (lineAfter line b) rest
 
 -- the bytes of a piece that are taken: each, as long as the longest answer has room
-unfoldable pub taken : ℕ → List ℕ → List ℕ → List ℕ
-taken room line [] = []
-taken room line (b ∷ rest) =
-    let onward = taken (room - length (answerAt line b)) (lineAfter line b) rest in
+unfoldable pub bytesTaken : ℕ → List ℕ → List ℕ → List ℕ
+bytesTaken room line [] = []
+bytesTaken room line (b ∷ rest) =
+    let onward = bytesTaken (room - length (answerAt line b)) (lineAfter line b) rest in
     cond (leb mostAnswer room) (b ∷ onward) []
 
 -- what code that takes these bytes leaves: how far it came, the line then, and their answers, stored from m on

@@ -5,7 +5,7 @@ use mathlib.Core.Bool.{cond}
 use lib.Dec.{eqb}
 use lib.ListN.{getD, drop}
 use Rattle.glyph.specs.Reply.{Reply}
-use Rattle.tape_frame.specs.Frame.{mostRecords}
+use Rattle.tape_frame.specs.Frame.{mostGlyphs}
 use Rattle.tape_frame.specs.Line.{digitsOf, half}
 
 -- the byte 0A, which ends a line
@@ -31,8 +31,8 @@ noFrame = 255 ∷ []
 
 -- the longest answer: 00, end, total and count, a position for each record of a row, and 0A
 abbrev pub mostAnswer : ℕ
-mostAnswer = 13 + 4 * mostRecords
+mostAnswer = 13 + 4 * mostGlyphs
 
 -- in capitals, 0A after it
-unfoldable pub ended : List ℕ → List ℕ
-ended bytes = digitsOf bytes ++ (newline ∷ [])
+unfoldable pub withNewline : List ℕ → List ℕ
+withNewline bytes = digitsOf bytes ++ (newline ∷ [])

@@ -7,7 +7,7 @@ use native.Mathlib.Numerals.{add-one}
 use lib.ListN.{length, getD, take, drop, drop-of-length-le}
 use lib.Seq.{drop-cons, getD-take, length-take-le}
 use Rattle.tape_frame.specs.Line.{digitsOf, half}
-use Rattle.tape_answer.specs.Line.{halves, mostAnswer, ended}
+use Rattle.tape_answer.specs.Line.{halves, mostAnswer, withNewline}
 
 module _ (l : List ℕ) (n i : ℕ) where
   pub halves-step : i < n → n ≤ length l
@@ -32,10 +32,10 @@ pub length-halves : (l : List ℕ) (n : ℕ) → n ≤ length l → length (digi
 length-halves l n h = four-each (take n l) ∙ ap (λ (k : ℕ). 4 * k) (length-take-le n l h)
 
 -- short answers have room where the longest has
-pub number-fits : (at x r : ℕ) → r ≡ at + length (ended (x ∷ [])) → r ≤ at + mostAnswer
-unfolding ended digitsOf
+pub number-fits : (at x r : ℕ) → r ≡ at + length (withNewline (x ∷ [])) → r ≤ at + mostAnswer
+unfolding withNewline digitsOf
 number-fits at x r e = omega arith
 
-pub extent-fits : (at extent r : ℕ) → r ≡ at + length (ended (4 ∷ half extent)) → r ≤ at + mostAnswer
-unfolding ended digitsOf
+pub extent-fits : (at extent r : ℕ) → r ≡ at + length (withNewline (4 ∷ half extent)) → r ≤ at + mostAnswer
+unfolding withNewline digitsOf
 extent-fits at extent r e = omega arith

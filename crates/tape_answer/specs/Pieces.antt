@@ -12,12 +12,12 @@ use lib.ListN.{length, take, drop, length-append}
 use lib.Seq.{take-all, take-append-le, length-take-le, drop-drop}
 use Rattle.tape_answer.specs.Answer.{answerTo, answerLine}
 use Rattle.tape_answer.specs.AnswerLaws.{le-or-lt}
-use Rattle.tape_frame.specs.Frame.{Reading, frameOf}
+use Rattle.tape_frame.specs.Frame.{LineRead, frameOf}
 use Rattle.tape_frame.specs.FrameLaws.{long-none}
 use Rattle.tape_frame.specs.Put.{take-put}
-use Rattle.tape_answer.specs.Line.{newline, mostAnswer, ended}
+use Rattle.tape_answer.specs.Line.{newline, mostAnswer, withNewline}
 use Rattle.tape_answer.specs.Tape.{lastAnswer, answersFrom, tapeOf}
-use Rattle.tape_answer.specs.Feeding.{mostKept, longer, lineAfter, answerAt, lineLeft, answersIn, taken, Feeds}
+use Rattle.tape_answer.specs.Feeding.{mostKept, longer, lineAfter, answerAt, lineLeft, answersIn, bytesTaken, Feeds}
 
 -- ---- one piece after another
 
@@ -40,29 +40,29 @@ taken-by : (b : ℕ) (p onward : List ℕ) → onward ++ drop (length onward) p 
 taken-by b p onward e true = ap (λ (r : List ℕ). b ∷ r) e
 taken-by b p onward e false = refl
 
-taken-part : (room : ℕ) (l p : List ℕ) → taken room l p ++ drop (length (taken room l p)) p ≡ p
-unfolding taken
+taken-part : (room : ℕ) (l p : List ℕ) → bytesTaken room l p ++ drop (length (bytesTaken room l p)) p ≡ p
+unfolding bytesTaken
 taken-part room l [] = refl
 taken-part room l (b ∷ p) =
-    taken-by b p (taken (room - length (answerAt l b)) (lineAfter l b) p) (taken-part (room - length (answerAt l b)) (lineAfter l b) p) (leb mostAnswer room)
+    taken-by b p (bytesTaken (room - length (answerAt l b)) (lineAfter l b) p) (taken-part (room - length (answerAt l b)) (lineAfter l b) p) (leb mostAnswer room)
 
 module _ (piece : List ℕ) (at : ℕ) (kept out : List ℕ) (m room at′ : ℕ) (kept′ out′ : List ℕ) (m′ : ℕ)
-    (f : Feeds (taken room kept (drop at piece)) at kept out m at′ kept′ out′ m′) where
-  rest : taken room kept (drop at piece) ++ drop at′ piece ≡ drop at piece
+    (f : Feeds (bytesTaken room kept (drop at piece)) at kept out m at′ kept′ out′ m′) where
+  rest : bytesTaken room kept (drop at piece) ++ drop at′ piece ≡ drop at piece
   rest =
-      ap (λ (n : ℕ). taken room kept (drop at piece) ++ drop n piece) (f .came)
-      ∙ ap (λ (r : List ℕ). taken room kept (drop at piece) ++ r) (sym (drop-drop (length (taken room kept (drop at piece))) at piece))
+      ap (λ (n : ℕ). bytesTaken room kept (drop at piece) ++ drop n piece) (f .came)
+      ∙ ap (λ (r : List ℕ). bytesTaken room kept (drop at piece) ++ r) (sym (drop-drop (length (bytesTaken room kept (drop at piece))) at piece))
       ∙ taken-part room kept (drop at piece)
 
   pub line-rest : lineLeft kept′ (drop at′ piece) ≡ lineLeft kept (drop at piece)
   line-rest =
       ap (λ (l : List ℕ). lineLeft l (drop at′ piece)) (f .line)
-      ∙ sym (line-pieces kept (taken room kept (drop at piece)) (drop at′ piece))
+      ∙ sym (line-pieces kept (bytesTaken room kept (drop at piece)) (drop at′ piece))
       ∙ ap (lineLeft kept) rest
 
   pub answers-rest : m′ ≤ length out → take m′ out′ ++ answersIn kept′ (drop at′ piece) ≡ take m out ++ answersIn kept (drop at piece)
   answers-rest h =
-      let bytes = taken room kept (drop at piece) in
+      let bytes = bytesTaken room kept (drop at piece) in
       ap (λ (n : ℕ). take n out′ ++ answersIn kept′ (drop at′ piece)) (f .answers .ends)
       ∙ ap (λ (o : List ℕ). take (m + length (answersIn kept bytes)) o ++ answersIn kept′ (drop at′ piece)) (f .answers .stored)
       ∙ ap (λ (o : List ℕ). o ++ answersIn kept′ (drop at′ piece)) (take-put out m (answersIn kept bytes) (omega (arith, f .answers .ends)))
@@ -83,7 +83,7 @@ frame-kept u =
 
 answer-kept : (u : List ℕ) → answerLine (take mostKept u) ≡ answerLine u
 unfolding answerLine
-answer-kept u = ap (λ (r : Reading). ended (answerTo r)) (frame-kept u)
+answer-kept u = ap (λ (r : LineRead). withNewline (answerTo r)) (frame-kept u)
 
 last-kept : (u : List ℕ) → lastAnswer (take mostKept u) ≡ lastAnswer u
 last-kept [] = refl

@@ -10,7 +10,7 @@ use lib.Seq.{drop-cons}
 use Rattle.tape_frame.specs.Put.{put, Puts, put-none, put-then}
 use Rattle.tape_answer.specs.Answer.{answerLine}
 use Rattle.tape_answer.specs.Line.{newline, mostAnswer}
-use Rattle.tape_answer.specs.Feeding.{mostKept, lineAfter, answerAt, lineLeft, answersIn, taken, Feeds}
+use Rattle.tape_answer.specs.Feeding.{mostKept, lineAfter, answerAt, lineLeft, answersIn, bytesTaken, Feeds}
 
 module _ (l : List ℕ) (b : ℕ) where
   pub after-newline : b ≡ newline → lineAfter l b ≡ []
@@ -36,17 +36,17 @@ module _ (l : List ℕ) (b : ℕ) where
 
 module _ (piece : List ℕ) (at room : ℕ) (l : List ℕ) where
   taken-on : at < length piece → mostAnswer ≤ room
-      → taken room l (drop at piece)
-      ≡ getD piece at 0 ∷ taken (room - length (answerAt l (getD piece at 0))) (lineAfter l (getD piece at 0)) (drop (at + 1) piece)
-  unfolding taken
+      → bytesTaken room l (drop at piece)
+      ≡ getD piece at 0 ∷ bytesTaken (room - length (answerAt l (getD piece at 0))) (lineAfter l (getD piece at 0)) (drop (at + 1) piece)
+  unfolding bytesTaken
   taken-on h k = rw (add-one at, drop-cons piece at 0 h, le-leb mostAnswer room k)
 
-  pub taken-full : at < length piece → room < mostAnswer → taken room l (drop at piece) ≡ []
-  unfolding taken
+  pub taken-full : at < length piece → room < mostAnswer → bytesTaken room l (drop at piece) ≡ []
+  unfolding bytesTaken
   taken-full h k = rw (drop-cons piece at 0 h, lt-leb mostAnswer room k)
 
-  pub taken-all : length piece ≤ at → taken room l (drop at piece) ≡ []
-  unfolding taken
+  pub taken-all : length piece ≤ at → bytesTaken room l (drop at piece) ≡ []
+  unfolding bytesTaken
   taken-all h = rw (drop-of-length-le piece {i = at} h)
 
 -- no byte taken
@@ -80,16 +80,16 @@ feeds-more b rest at kept out m k o w at′ k′ o′ w′ p q h f =
 
 -- the bytes that are taken from a place on
 abbrev left : List ℕ → ℕ → List ℕ → List ℕ → ℕ → List ℕ
-left piece at kept out m = taken (length out - m) kept (drop at piece)
+left piece at kept out m = bytesTaken (length out - m) kept (drop at piece)
 
 -- what comes of the bytes that are taken from here on comes of those from the first place on
-abbrev pub Leads : List ℕ → ℕ → List ℕ → List ℕ → ℕ → ℕ → List ℕ → List ℕ → ℕ → Type 0
-Leads piece from kept out m at k o w =
+abbrev pub FeedsOn : List ℕ → ℕ → List ℕ → List ℕ → ℕ → ℕ → List ℕ → List ℕ → ℕ → Type 0
+FeedsOn piece from kept out m at k o w =
     (at′ : ℕ) (k′ o′ : List ℕ) (w′ : ℕ) → Feeds (left piece at k o w) at k o w at′ k′ o′ w′
     → Feeds (left piece from kept out m) from kept out m at′ k′ o′ w′
 
 module _ (piece : List ℕ) (from : ℕ) (kept out : List ℕ) (m at : ℕ) (k o : List ℕ) (w : ℕ) where
-  pub leads-end : Leads piece from kept out m at k o w → left piece at k o w ≡ [] → Feeds (left piece from kept out m) from kept out m at k o w
+  pub leads-end : FeedsOn piece from kept out m at k o w → left piece at k o w ≡ [] → Feeds (left piece from kept out m) from kept out m at k o w
   leads-end f e = f at k o w (rw e (feeds-none at k o w))
 
 module _ (piece : List ℕ) (from : ℕ) (kept out : List ℕ) (m at : ℕ) (k o : List ℕ) (w : ℕ) (k′ o′ : List ℕ) (w′ : ℕ)
@@ -100,9 +100,9 @@ module _ (piece : List ℕ) (from : ℕ) (kept out : List ℕ) (m at : ℕ) (k o
   left-on =
       let r : length o - w - length (answerAt k (getD piece at 0)) ≡ length o′ - w′ = omega (arith, q .ends) in
       taken-on piece at (length o - w) k h room
-      ∙ ap (λ (x : List ℕ). getD piece at 0 ∷ taken (length o - w - length (answerAt k (getD piece at 0))) x (drop (at + 1) piece)) (sym p)
-      ∙ ap (λ (n : ℕ). getD piece at 0 ∷ taken n k′ (drop (at + 1) piece)) r
+      ∙ ap (λ (x : List ℕ). getD piece at 0 ∷ bytesTaken (length o - w - length (answerAt k (getD piece at 0))) x (drop (at + 1) piece)) (sym p)
+      ∙ ap (λ (n : ℕ). getD piece at 0 ∷ bytesTaken n k′ (drop (at + 1) piece)) r
 
-  pub leads-on : Leads piece from kept out m at k o w → Leads piece from kept out m (at + 1) k′ o′ w′
+  pub leads-on : FeedsOn piece from kept out m at k o w → FeedsOn piece from kept out m (at + 1) k′ o′ w′
   leads-on f at′ a b c g =
       f at′ a b c (rw left-on (feeds-more (getD piece at 0) (left piece (at + 1) k′ o′ w′) at k o w k′ o′ w′ at′ a b c p q e g))

@@ -8,10 +8,10 @@ ghost use Prim.Native.Nat.{_+_, _-_, _*_, _≤_, _<_, min};
 ghost use lib.ListN.{length, take, drop};
 ghost use Rattle.matching.specs.Answers.{refusalNumber, inputReply};
 ghost use Rattle.matching.specs.Take.{slots};
-ghost use Rattle.tape_frame.specs.Frame.{mostRecords};
+ghost use Rattle.tape_frame.specs.Frame.{mostGlyphs};
 ghost use Rattle.tape_frame.specs.Line.{capital, digitsOf, half};
 ghost use Rattle.tape_frame.specs.Put.{put, Puts};
-ghost use Rattle.tape_answer.specs.Line.{mostAnswer, newline, halves, matchedBytes, answerBytes, ended};
+ghost use Rattle.tape_answer.specs.Line.{mostAnswer, newline, halves, matchedBytes, answerBytes, withNewline};
 
 // The longest answer: 00, end, total and count, a position for each record of a row, and 0A.
 pub const MOST_ANSWER: usize = 13 + 4 * tape_frame::MOST_RECORDS;
@@ -77,7 +77,7 @@ fn put_newline(out: &mut [u8], at: usize) -> usize
 // A number alone.
 pub fn put_number(out: &mut [u8], at: usize, x: u8) -> usize
     requires { ⌜ at + 3 ≤ length (now out) ⌝ }
-    ensures { λ r. ⌜ Puts (now (out .entry)) at (ended (x ∷ [])) (now (out .exit)) r ⌝ }
+    ensures { λ r. ⌜ Puts (now (out .entry)) at (withNewline (x ∷ [])) (now (out .exit)) r ⌝ }
 {
     put_byte(out, at, x);
     put_newline(out, at + 2)
@@ -86,7 +86,7 @@ pub fn put_number(out: &mut [u8], at: usize, x: u8) -> usize
 // 04 and the extent.
 fn put_extent(out: &mut [u8], at: usize, extent: usize) -> usize
     requires { ⌜ at + 7 ≤ length (now out) ⌝ }
-    ensures { λ r. ⌜ Puts (now (out .entry)) at (ended (4 ∷ half extent)) (now (out .exit)) r ⌝ }
+    ensures { λ r. ⌜ Puts (now (out .entry)) at (withNewline (4 ∷ half extent)) (now (out .exit)) r ⌝ }
 {
     put_byte(out, at, 4);
     put_half(out, at + 2, extent);
@@ -114,8 +114,8 @@ fn put_matched(
     n: usize,
     positions: &[u16; SLOTS],
 ) -> usize
-    requires { ⌜ (n ≤ mostRecords) × (at + mostAnswer ≤ length (now out)) ⌝ }
-    ensures { λ r. ⌜ Puts (now (out .entry)) at (ended (0 ∷ matchedBytes (end ∷ total ∷ n ∷ take n (now (positions .entry))))) (now (out .exit)) r ⌝ }
+    requires { ⌜ (n ≤ mostGlyphs) × (at + mostAnswer ≤ length (now out)) ⌝ }
+    ensures { λ r. ⌜ Puts (now (out .entry)) at (withNewline (0 ∷ matchedBytes (end ∷ total ∷ n ∷ take n (now (positions .entry))))) (now (out .exit)) r ⌝ }
     ensures { λ _. ⌜ length (now (positions .entry)) ≡ slots ⌝ }
     ensures { λ r. ⌜ r ≤ at + mostAnswer ⌝ }
 {
@@ -151,7 +151,7 @@ fn counted(count: usize) -> usize
 // What a match answers, and where it ends.
 pub fn put_answer(out: &mut [u8], at: usize, m: InputMatch) -> usize
     requires { ⌜ at + mostAnswer ≤ length (now out) ⌝ }
-    ensures { λ r. ⌜ Puts (now (out .entry)) at (ended (answerBytes (inputReply m))) (now (out .exit)) r ⌝ }
+    ensures { λ r. ⌜ Puts (now (out .entry)) at (withNewline (answerBytes (inputReply m))) (now (out .exit)) r ⌝ }
     ensures { λ r. ⌜ r ≤ at + mostAnswer ⌝ }
 {
     let answer = m.answer;

@@ -11,7 +11,7 @@ ghost use mathlib.Core.Bool.{true};
 ghost use Prim.Native.Nat.{_*_, _≤_};
 ghost use lib.ListN.{length};
 ghost use Rattle.tape_frame.specs.Digits.{digit, spells, bytesOf};
-ghost use Rattle.tape_frame.specs.Frame.{whole, readBytes, frameOf};
+ghost use Rattle.tape_frame.specs.Frame.{wholeFrame, readBytes, frameOf};
 ghost use Rattle.tape_frame.specs.Decoding.{Decodes};
 ghost use Rattle.tape_frame.specs.Put.{put};
 
@@ -77,7 +77,7 @@ fn read_whole(
     done: &mut [u32; ROW],
     coming: &mut [u32; ROW],
 ) -> Decoded
-    ensures { λ r. ⌜ Decodes (whole table (now (b .entry))) r (now (values .entry)) (now (values .exit)) (now (done .entry)) (now (done .exit)) (now (coming .entry)) (now (coming .exit)) ⌝ }
+    ensures { λ r. ⌜ Decodes (wholeFrame table (now (b .entry))) r (now (values .entry)) (now (values .exit)) (now (done .entry)) (now (done .exit)) (now (coming .entry)) (now (coming .exit)) ⌝ }
 {
     if !tape_frame::is_whole(b) {
         return Decoded::NoFrame;

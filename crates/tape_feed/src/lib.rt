@@ -1,6 +1,6 @@
 // What a line of the bench tape is answered, and a tape in pieces.
 use matching::InputMatch;
-use matching::Lookup;
+use matching::Terms;
 use tape_answer::Fed;
 use tape_answer::MOST_ANSWER;
 use tape_answer::MOST_KEPT;
@@ -17,7 +17,7 @@ ghost use Rattle.tape_frame.specs.Put.{Puts};
 ghost use Rattle.tape_answer.specs.Answer.{answerLine};
 ghost use Rattle.tape_answer.specs.Asking.{asked};
 ghost use Rattle.tape_answer.specs.Line.{mostAnswer};
-ghost use Rattle.tape_answer.specs.Feeding.{mostKept, lineAfter, answerAt, taken, Feeds};
+ghost use Rattle.tape_answer.specs.Feeding.{mostKept, lineAfter, answerAt, bytesTaken, Feeds};
 
 // What a line that isn't a frame is answered.
 const NO_FRAME: u8 = 255;
@@ -36,7 +36,7 @@ fn ask(
     let d = h.done;
     let c = h.coming;
     let settings = h.settings;
-    let lookup = Lookup {
+    let lookup = Terms {
         settings,
         mask: h.mask,
         props: h.props,
@@ -106,7 +106,7 @@ fn take_byte(kept: &mut [u8], n: usize, out: &mut [u8], m: usize, b: u8) -> Take
 // A piece of the tape from a place on, until it ends or `out` has no room for one more answer.
 pub fn feed(piece: &[u8], from: usize, kept: &mut [u8], n: usize, out: &mut [u8], m: usize) -> Fed
     requires { ⌜ (from < length (now piece)) × (n ≤ mostKept) × (length (now kept) ≡ mostKept) × (m + mostAnswer ≤ length (now out)) ⌝ }
-    ensures { λ r. ⌜ Feeds (taken (length (now (out .entry)) - m) (take n (now (kept .entry))) (drop from (now (piece .entry)))) from (take n (now (kept .entry))) (now (out .entry)) m (r .at) (take (r .kept) (now (kept .exit))) (now (out .exit)) (r .written) ⌝ }
+    ensures { λ r. ⌜ Feeds (bytesTaken (length (now (out .entry)) - m) (take n (now (kept .entry))) (drop from (now (piece .entry)))) from (take n (now (kept .entry))) (now (out .entry)) m (r .at) (take (r .kept) (now (kept .exit))) (now (out .exit)) (r .written) ⌝ }
     ensures { λ r. ⌜ (from < r .at) × (r .at ≤ length (now (piece .entry))) × (r .kept ≤ mostKept) × (r .written ≤ length (now (out .entry))) ⌝ }
     ensures { λ r. ⌜ (r .at < length (now (piece .entry)) → length (now (out .entry)) < r .written + mostAnswer) ⌝ }
 {

@@ -8,7 +8,7 @@ use lib.ListN.{length, getD, drop, length-append}
 use lib.Seq.{drop-at, drop-drop}
 use Rattle.glyph.specs.Glyph.{words, Row}
 use Rattle.verdict.specs.declared.Table.{Table}
-use Rattle.tape_frame.specs.Frame.{Frame, mostValues, mostRecords, that, halfAt, wordAt, wordsAt, kindOf, settingsOf, valueCount, doneCount, comingCount, doneAt, comingAt, frameEnd, isWhole, frameIn, readBytes, frameOf}
+use Rattle.tape_frame.specs.Frame.{Frame, mostValues, mostGlyphs, aFrame, halfAt, wordAt, wordsAt, tableKind, settingsOf, valueCount, doneCount, comingCount, doneAt, comingAt, frameEnd, isWhole, frameIn, readBytes, frameOf}
 use Rattle.tape_frame.specs.FrameLaws.{keeps-whole, kindFor}
 use Rattle.tape_frame.specs.Line.{half, wordBytes, tagOf, settingsByte, openingBytes, frameBytes, lineOf}
 use Rattle.tape_frame.specs.Bytes.{Below, nothing, more, below-append, digits-spell, digits-back, below-half, below-word, below-words, length-wordBytes, half-back, word-back, half-on, words-on, words-back}
@@ -16,7 +16,7 @@ use Rattle.tape_frame.specs.Bytes.{Below, nothing, more, below-append, d
 -- ---- the frame
 
 -- what a frame on the tape keeps to
-pub record Within (f : Frame) : Type 0 where
+pub record FrameWithin (f : Frame) : Type 0 where
   pub mask : f .mask < 4294967296
   pub props : f .props < 4294967296
   pub cursor : f .cursor < 65536
@@ -28,8 +28,8 @@ pub record Within (f : Frame) : Type 0 where
   pub comingCount : ℕ
   pub doneRow : Row doneCount (f .done)
   pub comingRow : Row comingCount (f .coming)
-  pub doneFits : doneCount ≤ mostRecords
-  pub comingFits : comingCount ≤ mostRecords
+  pub doneFits : doneCount ≤ mostGlyphs
+  pub comingFits : comingCount ≤ mostGlyphs
 
 three-small : (a b c : Bool) → cond a 1 0 + cond b 2 0 + cond c 4 0 < 8
 three-small true true true = omega arith
@@ -97,7 +97,7 @@ unfolding frameBytes
 drop-opening f Table.Gsub e = rw e
 drop-opening f Table.Gpos e = rw e
 
-module _ (f : Frame) (w : Within f) where
+module _ (f : Frame) (w : FrameWithin f) where
   -- after the values stand the counts and the records
   abbrev counts : List ℕ
   counts =
@@ -254,25 +254,25 @@ module _ (f : Frame) (w : Within f) where
         coming = coming-at j;
       }
 
-  read-tag : (t : Table) → f .settings .table ≡ t → kindOf (frameBytes f) ≡ kindFor t
-  unfolding kindOf frameBytes
+  read-tag : (t : Table) → f .settings .table ≡ t → tableKind (frameBytes f) ≡ kindFor t
+  unfolding tableKind frameBytes
   read-tag Table.Gsub e = rw e
   read-tag Table.Gpos e = rw e
 
-  read-kind : (t : Table) → f .settings .table ≡ t → readBytes (frameBytes f) ≡ that (frameIn t (frameBytes f))
+  read-kind : (t : Table) → f .settings .table ≡ t → readBytes (frameBytes f) ≡ aFrame (frameIn t (frameBytes f))
   unfolding readBytes
   read-kind Table.Gsub e = rw (read-tag Table.Gsub e, frame-whole)
   read-kind Table.Gpos e = rw (read-tag Table.Gpos e, frame-whole)
 
   -- what is written is read back
-  pub line-back : frameOf (lineOf f) ≡ that f
+  pub line-back : frameOf (lineOf f) ≡ aFrame f
   unfolding frameOf lineOf
   line-back =
       rw (digits-spell (frameBytes f), digits-back (below-frame f (w .valueCount)))
-      (read-kind (f .settings .table) refl ∙ ap that frame-back)
+      (read-kind (f .settings .table) refl ∙ ap aFrame frame-back)
 
 -- two frames that have the same line are the same
-pub line-tells : (f g : Frame) → Within f → Within g → lineOf f ≡ lineOf g → f ≡ g
+pub line-tells : (f g : Frame) → FrameWithin f → FrameWithin g → lineOf f ≡ lineOf g → f ≡ g
 line-tells f g v w e =
-    let p : that f ≡ that g = sym (line-back f v) ∙ ap frameOf e ∙ line-back g w in
+    let p : aFrame f ≡ aFrame g = sym (line-back f v) ∙ ap frameOf e ∙ line-back g w in
     cc

@@ -12,7 +12,7 @@ use Rattle.bits.specs.Bits.{every}
 use Rattle.bits.specs.Laws.{every-at}
 use Rattle.glyph.specs.Glyph.{words}
 use Rattle.tape_frame.specs.Digits.{digit, isDigit, spells, bytesOf}
-use Rattle.tape_frame.specs.Frame.{that, halfAt, wordAt, wordsAt}
+use Rattle.tape_frame.specs.Frame.{aFrame, halfAt, wordAt, wordsAt}
 use Rattle.tape_frame.specs.Line.{capital, digitsOf, half, word, wordBytes}
 
 -- ---- numbers below a bound, and lists of them

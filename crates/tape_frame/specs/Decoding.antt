@@ -6,7 +6,7 @@ use lib.ListN.{length}
 use Rattle.glyph.specs.Glyph.{words}
 use Rattle.tape_frame.specs.declared.Head.{Head}
 use Rattle.tape_frame.specs.declared.Decoded.{Decoded}
-use Rattle.tape_frame.specs.Frame.{Frame, Reading, that, none, mostValues, mostRecords}
+use Rattle.tape_frame.specs.Frame.{Frame, LineRead, aFrame, notFrame, mostValues, mostGlyphs}
 use Rattle.tape_frame.specs.Put.{put}
 
 -- the numbers of a frame; its rows go beside them
@@ -21,25 +21,25 @@ headOf f = record {
   coming = length (f .coming);
 }
 
-abbrev pub decoded : Reading → Decoded
-decoded (that f) = Decoded.Frame (headOf f)
-decoded none = Decoded.NoFrame
+abbrev pub decoded : LineRead → Decoded
+decoded (aFrame f) = Decoded.Frame (headOf f)
+decoded notFrame = Decoded.NoFrame
 
 -- a frame's lists; no frame has none
-abbrev pub valuesOf : Reading → List ℕ
-valuesOf (that f) = f .values
-valuesOf none = []
+abbrev pub valuesOf : LineRead → List ℕ
+valuesOf (aFrame f) = f .values
+valuesOf notFrame = []
 
-abbrev pub doneOf : Reading → List ℕ
-doneOf (that f) = f .done
-doneOf none = []
+abbrev pub doneOf : LineRead → List ℕ
+doneOf (aFrame f) = f .done
+doneOf notFrame = []
 
-abbrev pub comingOf : Reading → List ℕ
-comingOf (that f) = f .coming
-comingOf none = []
+abbrev pub comingOf : LineRead → List ℕ
+comingOf (aFrame f) = f .coming
+comingOf notFrame = []
 
 -- the answer is the reading's, and each of the three slices holds the reading's list from its front, what stands past it as it was
-pub record Decodes (r : Reading) (answer : Decoded) (v v′ d d′ c c′ : List ℕ) : Type 0 where
+pub record Decodes (r : LineRead) (answer : Decoded) (v v′ d d′ c c′ : List ℕ) : Type 0 where
   pub answers : answer ≡ decoded r
   pub values : v′ ≡ put v 0 (valuesOf r)
   pub done : d′ ≡ put d 0 (doneOf r)
@@ -48,5 +48,5 @@ pub record Decodes (r : Reading) (answer : Decoded) (v v′ d d′ c c′ : List
 -- the lists of a head keep the limits
 pub record Bounded (h : Head) : Type 0 where
   pub values : h .values ≤ mostValues
-  pub done : h .done ≤ words * mostRecords
-  pub coming : h .coming ≤ words * mostRecords
+  pub done : h .done ≤ words * mostGlyphs
+  pub coming : h .coming ≤ words * mostGlyphs

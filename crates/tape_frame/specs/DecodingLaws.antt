@@ -10,7 +10,7 @@ use Rattle.verdict.specs.declared.Table.{Table}
 use Rattle.tape_frame.specs.declared.Head.{Head}
 use Rattle.tape_frame.specs.declared.Decoded.{Decoded}
 use Rattle.tape_frame.specs.Digits.{bytesOf}
-use Rattle.tape_frame.specs.Frame.{Frame, Reading, that, none, wordsAt, valueCount, doneCount, comingCount, doneAt, comingAt, isWhole, frameIn, frameOf}
+use Rattle.tape_frame.specs.Frame.{Frame, LineRead, aFrame, notFrame, wordsAt, valueCount, doneCount, comingCount, doneAt, comingAt, isWhole, frameIn, frameOf}
 use Rattle.tape_frame.specs.FrameLaws.{length-words, whole-keeps, frame-has}
 use Rattle.tape_frame.specs.Decoding.{headOf, decoded, Decodes, Bounded}
 use Rattle.tape_frame.specs.Put.{put-none}
@@ -26,7 +26,7 @@ head-bounded table b e =
     }
 
 -- no frame: nothing is stored
-pub decodes-none : (r : Reading) (v d c : List ℕ) → r ≡ none → Decodes r Decoded.NoFrame v v d d c c
+pub decodes-none : (r : LineRead) (v d c : List ℕ) → r ≡ notFrame → Decodes r Decoded.NoFrame v v d d c c
 decodes-none r v d c e =
     rw e (record { answers = refl; values = sym (put-none v 0); done = sym (put-none d 0); coming = sym (put-none c 0) })
 
@@ -61,23 +61,23 @@ module _ (table : Table) (b : List ℕ) (h : Head) (e : h ≡ headOf (frameIn ta
       ap (λ (n : ℕ). wordsAt n (20 + 4 * h .values + 4 * h .done) b) count-coming
       ∙ ap (λ (n : ℕ). wordsAt (words * comingCount b) n b) from
 
-pub frame-bounded : (l : List ℕ) (f : Frame) → frameOf l ≡ that f → Bounded (headOf f)
+pub frame-bounded : (l : List ℕ) (f : Frame) → frameOf l ≡ aFrame f → Bounded (headOf f)
 frame-bounded l f h = let p = frame-has l f h in rw (p .same) (head-bounded (p .table) (bytesOf l) (p .full))
 
 -- ---- what is known of a line by what it was decoded to
 
-pub none-told : (r : Reading) → Decoded.NoFrame ≡ decoded r → r ≡ none
-none-told (that f) e = let z : _≡_ {A = ℕ} 0 1 = cc in absurd (omega arith)
-none-told none e = refl
+pub none-told : (r : LineRead) → Decoded.NoFrame ≡ decoded r → r ≡ notFrame
+none-told (aFrame f) e = let z : _≡_ {A = ℕ} 0 1 = cc in absurd (omega arith)
+none-told notFrame e = refl
 
-pub record Told (r : Reading) (h : Head) : Type 0 where
+pub record FrameTold (r : LineRead) (h : Head) : Type 0 where
   pub frame : Frame
-  pub is : r ≡ that frame
+  pub is : r ≡ aFrame frame
   pub head : h ≡ headOf frame
 
-pub frame-told : (r : Reading) (h : Head) → Decoded.Frame h ≡ decoded r → Told r h
-frame-told (that f) h e = record { frame = f; is = refl; head = cc }
-frame-told none h e = let z : _≡_ {A = ℕ} 0 1 = cc in absurd (omega arith)
+pub frame-told : (r : LineRead) (h : Head) → Decoded.Frame h ≡ decoded r → FrameTold r h
+frame-told (aFrame f) h e = record { frame = f; is = refl; head = cc }
+frame-told notFrame h e = let z : _≡_ {A = ℕ} 0 1 = cc in absurd (omega arith)
 
-pub told-bounded : (l : List ℕ) (h : Head) → Told (frameOf l) h → Bounded h
+pub told-bounded : (l : List ℕ) (h : Head) → FrameTold (frameOf l) h → Bounded h
 told-bounded l h t = rw (t .head) (frame-bounded l (t .frame) (t .is))

@@ -15,11 +15,11 @@ use Rattle.glyph.specs.Glyph.{words}
 use Rattle.verdict.specs.declared.Table.{Table}
 use Rattle.tape_frame.specs.declared.Kind.{Kind}
 use Rattle.tape_frame.specs.Digits.{noDigit, digit, isDigit, spells, bytesOf}
-use Rattle.tape_frame.specs.Frame.{Frame, that, halfAt, wordAt, wordsAt, opens, gsub, gpos, kindOf, settingsOf, valueCount, doneCount, comingCount, countsAt, doneAt, comingAt, frameEnd, frameIn, frameOf}
-use Rattle.tape_frame.specs.FrameLaws.{Kept, whole-keeps, length-words, kindFor, frame-has}
+use Rattle.tape_frame.specs.Frame.{Frame, aFrame, halfAt, wordAt, wordsAt, opens, gsub, gpos, tableKind, settingsOf, valueCount, doneCount, comingCount, countsAt, doneAt, comingAt, frameEnd, frameIn, frameOf}
+use Rattle.tape_frame.specs.FrameLaws.{FrameLimits, whole-keeps, length-words, kindFor, frame-has}
 use Rattle.tape_frame.specs.Line.{capital, digitsOf, half, word, wordBytes, tagOf, settingsByte, openingBytes, frameBytes, lineOf}
 use Rattle.tape_frame.specs.Bytes.{Below, nothing, more}
-use Rattle.tape_frame.specs.Back.{Within}
+use Rattle.tape_frame.specs.Back.{FrameWithin}
 
 -- ---- digits in capitals
 
@@ -180,9 +180,9 @@ four-of b w x y z e =
     ∷ sym (eqb-true (getD b 3 0) z (and-right ((p && q) && r) s e)) j
     ∷ []
 
-tag-forth : (t : Table) (b : List ℕ) → kindOf b ≡ kindFor t
+tag-forth : (t : Table) (b : List ℕ) → tableKind b ≡ kindFor t
     → tagOf t ≡ getD b 0 0 ∷ getD b 1 0 ∷ getD b 2 0 ∷ getD b 3 0 ∷ []
-unfolding kindOf
+unfolding tableKind
 tag-forth Table.Gsub b e = four-of b 71 83 85 66 (kind-gsub (opens b gsub) (opens b gpos) e)
 tag-forth Table.Gpos b e = four-of b 71 80 79 83 (kind-gpos (opens b gsub) (opens b gpos) e)
 
@@ -193,7 +193,7 @@ settings-forth t x h =
 
 -- ---- the frame
 
-module _ (t : Table) (b : List ℕ) (s : Below 256 b) (k : Kept b) where
+module _ (t : Table) (b : List ℕ) (s : Below 256 b) (k : FrameLimits b) where
   size : 20 ≤ length b
   size = omega (arith, k .size)
 
@@ -208,7 +208,7 @@ module _ (t : Table) (b : List ℕ) (s : Below 256 b) (k : Kept b) where
       (drop-four b s 8 (omega (arith, size))
       ∙ ap (λ (r : List ℕ). getD b 8 0 ∷ getD b 9 0 ∷ getD b 10 0 ∷ getD b 11 0 ∷ r) (drop-four b s 12 (omega (arith, size))))))
 
-  opening-forth : kindOf b ≡ kindFor t → openingBytes (frameIn t b) ++ drop 16 b ≡ b
+  opening-forth : tableKind b ≡ kindFor t → openingBytes (frameIn t b) ++ drop 16 b ≡ b
   unfolding frameIn settingsOf
   opening-forth tag =
       (λ j.
@@ -236,7 +236,7 @@ module _ (t : Table) (b : List ℕ) (s : Below 256 b) (k : Kept b) where
       ap (λ (r : List ℕ). wordBytes (frameIn t b .done) ++ r) coming-forth
       ∙ words-forth b s (words * doneCount b) (doneAt b) (omega (arith, k .size))
 
-  frame-forth : kindOf b ≡ kindFor t → frameBytes (frameIn t b) ≡ b
+  frame-forth : tableKind b ≡ kindFor t → frameBytes (frameIn t b) ≡ b
   unfolding frameBytes frameIn
   frame-forth tag =
       let d : length (frameIn t b .done) / words ≡ doneCount b = omega (arith, length-words (words * doneCount b) (doneAt b) b) in
@@ -250,7 +250,7 @@ module _ (t : Table) (b : List ℕ) (s : Below 256 b) (k : Kept b) where
       ∙ ap (λ (x : List ℕ). o ++ x) (words-forth b s (valueCount b) 16 (omega (arith, k .size)))
       ∙ opening-forth tag
 
-  frame-within : Within (frameIn t b)
+  frame-within : FrameWithin (frameIn t b)
   unfolding frameIn
   frame-within = record {
     mask = word-small b s 5;
@@ -272,9 +272,9 @@ module _ (t : Table) (b : List ℕ) (s : Below 256 b) (k : Kept b) where
 
 pub record Is (l : List ℕ) (f : Frame) : Type 0 where
   pub line : capitals l ≡ lineOf f
-  pub within : Within f
+  pub within : FrameWithin f
 
-pub line-forth : (l : List ℕ) (f : Frame) → frameOf l ≡ that f → Is l f
+pub line-forth : (l : List ℕ) (f : Frame) → frameOf l ≡ aFrame f → Is l f
 unfolding lineOf
 line-forth l f e =
     let h = frame-has l f e in

@@ -23,20 +23,20 @@ pub record Frame : Type 0 where
   pub done : List ℕ
   pub coming : List ℕ
 
-pub data Reading : Type 0 where
-  that : Frame → Reading
-  none : Reading
+pub data LineRead : Type 0 where
+  aFrame : Frame → LineRead
+  notFrame : LineRead
 
 -- values, and records in each row, at most
 abbrev pub mostValues : ℕ
 mostValues = 64
 
-abbrev pub mostRecords : ℕ
-mostRecords = 64
+abbrev pub mostGlyphs : ℕ
+mostGlyphs = 64
 
 -- the longest frame's bytes and digits: everything but values and records is 20 bytes
 abbrev pub mostBytes : ℕ
-mostBytes = 20 + 4 * mostValues + 4 * words * (2 * mostRecords)
+mostBytes = 20 + 4 * mostValues + 4 * words * (2 * mostGlyphs)
 
 abbrev pub mostDigits : ℕ
 mostDigits = 2 * mostBytes
@@ -69,8 +69,8 @@ gsub = 71 ∷ 83 ∷ 85 ∷ 66 ∷ []
 abbrev pub gpos : List ℕ
 gpos = 71 ∷ 80 ∷ 79 ∷ 83 ∷ []
 
-unfoldable pub kindOf : List ℕ → Kind
-kindOf b = cond (opens b gsub) Kind.Gsub (cond (opens b gpos) Kind.Gpos Kind.Neither)
+unfoldable pub tableKind : List ℕ → Kind
+tableKind b = cond (opens b gsub) Kind.Gsub (cond (opens b gpos) Kind.Gpos Kind.Neither)
 
 -- 1 auto-ZWNJ, 2 auto-ZWJ, 4 syllables
 unfoldable pub settingsOf : Table → ℕ → Settings
@@ -104,7 +104,7 @@ frameEnd b = comingAt b + 4 * (words * comingCount b)
 -- no other settings bits, the limits, and no byte too few or too many
 unfoldable pub isWhole : List ℕ → Bool
 isWhole b =
-    ((ltb (getD b 4 0) 8 && leb (valueCount b) mostValues) && (leb (doneCount b) mostRecords && leb (comingCount b) mostRecords))
+    ((ltb (getD b 4 0) 8 && leb (valueCount b) mostValues) && (leb (doneCount b) mostGlyphs && leb (comingCount b) mostGlyphs))
     && eqb (length b) (frameEnd b)
 
 unfoldable pub frameIn : Table → List ℕ → Frame
@@ -118,17 +118,17 @@ frameIn table b = record {
   coming = wordsAt (words * comingCount b) (comingAt b) b;
 }
 
-abbrev pub whole : Table → List ℕ → Reading
-whole table b = cond (isWhole b) (that (frameIn table b)) none
+abbrev pub wholeFrame : Table → List ℕ → LineRead
+wholeFrame table b = cond (isWhole b) (aFrame (frameIn table b)) notFrame
 
-abbrev pub ofKind : Kind → List ℕ → Reading
-ofKind Kind.Gsub b = whole Table.Gsub b
-ofKind Kind.Gpos b = whole Table.Gpos b
-ofKind Kind.Neither b = none
+abbrev pub ofKind : Kind → List ℕ → LineRead
+ofKind Kind.Gsub b = wholeFrame Table.Gsub b
+ofKind Kind.Gpos b = wholeFrame Table.Gpos b
+ofKind Kind.Neither b = notFrame
 
-unfoldable pub readBytes : List ℕ → Reading
-readBytes b = ofKind (kindOf b) b
+unfoldable pub readBytes : List ℕ → LineRead
+readBytes b = ofKind (tableKind b) b
 
 -- the frame that a line is, given its bytes without its 0A
-unfoldable pub frameOf : List ℕ → Reading
-frameOf line = cond (spells line) (readBytes (bytesOf line)) none
+unfoldable pub frameOf : List ℕ → LineRead
+frameOf line = cond (spells line) (readBytes (bytesOf line)) notFrame

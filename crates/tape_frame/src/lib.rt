@@ -4,7 +4,7 @@ use verdict::Table;
 ghost use mathlib.Core.Path.{_≡_};
 ghost use Prim.Native.Nat.{_+_, _*_, _≤_};
 ghost use lib.ListN.{length, getD};
-ghost use Rattle.tape_frame.specs.Frame.{halfAt, wordAt, wordsAt, opens, kindOf, settingsOf, valueCount, doneCount, comingCount, isWhole, frameIn};
+ghost use Rattle.tape_frame.specs.Frame.{halfAt, wordAt, wordsAt, opens, tableKind, settingsOf, valueCount, doneCount, comingCount, isWhole, frameIn};
 ghost use Rattle.tape_frame.specs.Decoding.{headOf};
 ghost use Rattle.tape_frame.specs.Put.{put};
 
@@ -95,7 +95,7 @@ fn opens(b: &[u8], name: &[u8; 4]) -> bool
 }
 
 pub fn kind_of(b: &[u8]) -> Kind
-    ensures { λ r. ⌜ r ≡ kindOf (now (b .entry)) ⌝ }
+    ensures { λ r. ⌜ r ≡ tableKind (now (b .entry)) ⌝ }
 {
     if opens(b, b"GSUB") {
         return Kind::Gsub;

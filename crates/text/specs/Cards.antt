@@ -13,9 +13,9 @@ sign id = glyph id 0 0 0 0 1
 abbrev given : Text
 given = record { glyphs = sign 1 ∷ sign 2 ∷ sign 3 ∷ []; cursor = 0 }
 
-pub k11 : movedTo 4 (replaced (2 ∷ 2 ∷ []) (movedTo 1 given)) ≡ record { glyphs = sign 1 ∷ sign 2 ∷ sign 2 ∷ sign 3 ∷ []; cursor = 4 }
+pub k11-moves : movedTo 4 (replaced (2 ∷ 2 ∷ []) (movedTo 1 given)) ≡ record { glyphs = sign 1 ∷ sign 2 ∷ sign 2 ∷ sign 3 ∷ []; cursor = 4 }
 unfolding withId
-k11 = refl
+k11-moves = refl
 
-pub k13 : movedTo 2 (replaced [] (movedTo 1 given)) ≡ record { glyphs = sign 1 ∷ sign 3 ∷ []; cursor = 2 }
-k13 = refl
+pub k13-moves : movedTo 2 (replaced [] (movedTo 1 given)) ≡ record { glyphs = sign 1 ∷ sign 3 ∷ []; cursor = 2 }
+k13-moves = refl

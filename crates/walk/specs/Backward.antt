@@ -8,7 +8,7 @@ use Rattle.verdict.specs.declared.Verdict.{Verdict}
 use Rattle.verdict.specs.declared.Verdict.the-variants.{Match, NotMatch, Skip}
 use Rattle.walk.specs.declared.Walked.{Walked}
 use Rattle.walk.specs.declared.Walked.the-variants.{Found, Stopped, RanOut, Refused}
-use Rattle.walk.specs.Walk.{afterBack, walkBack}
+use Rattle.walk.specs.Walk.{onVerdictBack, walkBack}
 use Rattle.walk.specs.Means.{Passed, FindsBack, StopsBack, RunsOutBack, MeansBack}
 
 module _ (v : ℕ → Verdict) where
@@ -38,7 +38,7 @@ module _ (v : ℕ → Verdict) where
   more p (RanOut x) e f = record { all = passed-more 0 p e (f .all); counts = f .counts }
   more p Refused e f = f
 
-  turn : (p : ℕ) (r : Verdict) (rest : Walked) → v p ≡ r → MeansBack v p rest → MeansBack v (suc p) (afterBack r p rest)
+  turn : (p : ℕ) (r : Verdict) (rest : Walked) → v p ≡ r → MeansBack v p rest → MeansBack v (suc p) (onVerdictBack r p rest)
   turn p Match rest e f = record { earlier = omega arith; between = λ k g h. absurd (omega arith); matches = e }
   turn p NotMatch rest e f = record {
     stop = p;

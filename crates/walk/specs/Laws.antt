@@ -8,7 +8,7 @@ use Rattle.verdict.specs.declared.Verdict.{Verdict}
 use Rattle.verdict.specs.declared.Verdict.the-variants.{Match, NotMatch, Skip}
 use Rattle.walk.specs.declared.Walked.{Walked}
 use Rattle.walk.specs.declared.Walked.the-variants.{Found, Stopped, RanOut, Refused}
-use Rattle.walk.specs.Walk.{after, walk, walkFrom}
+use Rattle.walk.specs.Walk.{onVerdict, walk, walkFrom}
 use Rattle.walk.specs.Means.{Passed, Finds, Stops, RunsOut, Means}
 
 module _ (v : ℕ → Verdict) (len : ℕ) where
@@ -39,7 +39,7 @@ module _ (v : ℕ → Verdict) (len : ℕ) where
   more next (RanOut x) l e f = record { all = passed-more next len e (f .all); counts = let h = f .counts in omega arith }
   more next Refused l e f = f
 
-  turn : (next : ℕ) (r : Verdict) (rest : Walked) → next < len → v next ≡ r → Means v len (next + 1) rest → Means v len next (after r next rest)
+  turn : (next : ℕ) (r : Verdict) (rest : Walked) → next < len → v next ≡ r → Means v len (next + 1) rest → Means v len next (onVerdict r next rest)
   turn next Match rest l e f = record {
     later = omega arith;
     inside = l;

@@ -13,7 +13,7 @@ use Rattle.verdict.specs.declared.Verdict.the-variants.{Match, NotMatch, Skip}
 use Rattle.verdict.specs.Verdict.{Asked, verdict, judgeAt}
 use Rattle.walk.specs.declared.Walked.{Walked}
 use Rattle.walk.specs.declared.Walked.the-variants.{Found, Stopped, RanOut, Refused}
-use Rattle.walk.specs.Walk.{after, walk, walkFrom, afterBack, walkBack}
+use Rattle.walk.specs.Walk.{onVerdict, walk, walkFrom, onVerdictBack, walkBack}
 
 -- an answer over a part that begins at `start`, counted in the whole row
 abbrev pub raised : ℕ → Walked → Walked
@@ -23,7 +23,7 @@ raised start (RanOut extent) = RanOut (start + extent)
 raised start Refused = Refused
 
 module _ (v : ℕ → Verdict) (start : ℕ) where
-  turn : (r : Verdict) (p : ℕ) (rest rest′ : Walked) → raised start rest ≡ rest′ → raised start (after r p rest) ≡ after r (start + p) rest′
+  turn : (r : Verdict) (p : ℕ) (rest rest′ : Walked) → raised start rest ≡ rest′ → raised start (onVerdict r p rest) ≡ onVerdict r (start + p) rest′
   turn Match p rest rest′ e = refl
   turn NotMatch p rest rest′ e = ap Stopped (omega arith)
   turn Skip p rest rest′ e = e
@@ -49,7 +49,7 @@ module _ (u v : ℕ → Verdict) where
   same zero next h = refl
   same (suc n) next h =
       rw (h next (omega arith) (omega arith))
-      (ap (after (v next) next) (same n (next + 1) (λ k l g. h k (omega arith) (omega arith))))
+      (ap (onVerdict (v next) next) (same n (next + 1) (λ k l g. h k (omega arith) (omega arith))))
 
   pub walk-same : (len next : ℕ) → ((k : ℕ) → next ≤ k → k < len → u k ≡ v k) → walkFrom u len next ≡ walkFrom v len next
   unfolding walkFrom
@@ -58,7 +58,7 @@ module _ (u v : ℕ → Verdict) where
   pub back-same : (place : ℕ) → ((k : ℕ) → k < place → u k ≡ v k) → walkBack u place ≡ walkBack v place
   unfolding walkBack
   back-same zero h = refl
-  back-same (suc p) h = rw (h p (omega arith)) (ap (afterBack (v p) p) (back-same p (λ k l. h k (omega arith))))
+  back-same (suc p) h = rw (h p (omega arith)) (ap (onVerdictBack (v p) p) (back-same p (λ k l. h k (omega arith))))
 
 module _ (m : Matcher) (asked : Asked) (syllable : ℕ) (sets : List ℕ) (gs : List Glyph) where
   -- the part from glyph `start` on

@@ -13,7 +13,7 @@ use Rattle.glyph.specs.Glyph.{glyphsOf, illShaped}
 use Rattle.glyph.specs.Laws.{well-shaped}
 use Rattle.glyph.specs.Sets.{oddSets}
 use Rattle.glyph.specs.Reply.{Reply}
-use Rattle.glyph.specs.Order.{firstOf, RefusedBy, refused-exactly}
+use Rattle.glyph.specs.Order.{firstAnswer, RefusedBy, refused-exactly}
 use Rattle.glyph.specs.Tests.{both, over, paired}
 use Rattle.verdict.specs.declared.Matcher.{Matcher}
 use Rattle.verdict.specs.Verdict.{Asked, judgeAt}
@@ -54,8 +54,8 @@ bare Refused n e = refl
 
 -- so the number of a reply with none is what the test answers with
 first : (w : Walked) (bad : Bool) → (w ≡ Refused) ↔ (bad ≡ true)
-    → (n : ℕ) → (walkReply w ≡ replies n []) ↔ (firstOf ((bad, 1) ∷ []) ≡ some n)
-unfolding firstOf
+    → (n : ℕ) → (walkReply w ≡ replies n []) ↔ (firstAnswer ((bad, 1) ∷ []) ≡ some n)
+unfolding firstAnswer
 first w true r n =
     let one = ap walkReply (r .1 refl) in
     (λ e. ap (λ (q : Reply). some (q .number)) (sym one ∙ e), λ e. one ∙ ap (λ (k : ℕ). replies k []) (Option·some-inj .0 e))

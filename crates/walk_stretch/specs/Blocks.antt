@@ -29,15 +29,15 @@ abbrev pub flipped : ℕ → ℕ → ℕ
 flipped class props = bitXor props (class * 256)
 
 -- what flipped props tell
-unfoldable pub shown : ℕ → ℕ → ℕ → Bool
-shown asked class x = ignoredClass asked x || ((not (eqb class 0) && isMark x) && leb 256 x)
+unfoldable pub propsShow : ℕ → ℕ → ℕ → Bool
+propsShow asked class x = ignoredClass asked x || ((not (eqb class 0) && isMark x) && leb 256 x)
 
 -- the places of a list of glyphs
 abbrev pub flippedAt : ℕ → List Glyph → ℕ → ℕ
 flippedAt class gs i = flipped class (getD gs i blank .props)
 
 abbrev pub shownAt : ℕ → ℕ → List Glyph → ℕ → Bool
-shownAt asked class gs i = shown asked class (flippedAt class gs i)
+shownAt asked class gs i = propsShow asked class (flippedAt class gs i)
 
 -- the bits of a are bits of x
 abbrev pub Under : ℕ → ℕ → Type 0
@@ -98,8 +98,8 @@ module _ (asked a x : ℕ) (u : Under a x) where
   high-under : leb 256 a ≡ true → leb 256 x ≡ true
   high-under e = le-leb 256 x (let l = leb-true 256 a e in let w = u .0 in omega arith)
 
-  pub shown-under : (class : ℕ) → shown asked class a ≡ true → shown asked class x ≡ true
-  unfolding shown
+  pub shown-under : (class : ℕ) → propsShow asked class a ≡ true → propsShow asked class x ≡ true
+  unfolding propsShow
   shown-under class =
       or-mono (ignoredClass asked a) ((not (eqb class 0) && isMark a) && leb 256 a)
       (ignoredClass asked x) ((not (eqb class 0) && isMark x) && leb 256 x)
@@ -108,7 +108,7 @@ module _ (asked a x : ℕ) (u : Under a x) where
       (and-mono (not (eqb class 0)) (isMark a) (not (eqb class 0)) (isMark x) (same (not (eqb class 0))) (u .1 3))
       high-under)
 
-pub shown-block : (asked class all : ℕ) (gs : List Glyph) (a b : ℕ) → Common (flippedAt class gs) all a b → shown asked class all ≡ true
+pub shown-block : (asked class all : ℕ) (gs : List Glyph) (a b : ℕ) → Common (flippedAt class gs) all a b → propsShow asked class all ≡ true
     → AllYes (shownAt asked class gs) a b
 shown-block asked class all gs a b h e i l g = shown-under asked all (flippedAt class gs i) (h i l g) class e
 
@@ -162,7 +162,7 @@ module _ (asked : ℕ) (sets : List ℕ) (p id : ℕ) where
       rw e (and-both (isMark p) (c && d) (and-right c (isMark p) l) (and-both c d (and-left c (isMark p) l) (and-right (c && isMark p) d h)))
 
 pub shown-yes : (asked : ℕ) (sets : List ℕ) (gs : List Glyph) (i : ℕ) → shownAt asked (classBy asked) gs i ≡ true → yesAt asked sets gs i ≡ true
-unfolding shown
+unfolding propsShow
 shown-yes asked sets gs i e =
     let c = classBy asked in
     let g = getD gs i blank in

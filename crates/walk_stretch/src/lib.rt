@@ -7,7 +7,7 @@ ghost use lib.ListN.{length, getD};
 ghost use Rattle.glyph.specs.Glyph.{glyphsOf};
 ghost use Rattle.verdict.specs.Verdict.{isMark};
 ghost use Rattle.walk_stretch.specs.Stretch.{AllYes, Crossed, lowestOf, mayPassMarks, yesAt};
-ghost use Rattle.walk_stretch.specs.Blocks.{block, classBy, shown, flippedAt, shownAt, Common};
+ghost use Rattle.walk_stretch.specs.Blocks.{block, classBy, propsShow, flippedAt, shownAt, Common};
 ghost use Rattle.walk_stretch.specs.Outside.{outsideAt, Admits, Grown};
 
 // Glyphs that are looked at together.
@@ -163,7 +163,7 @@ fn past_blocks(row: &[u32], len: usize, left: usize, back: bool, asked: u32, cla
 
 // Whether props in which the class asked was flipped tell of a glyph that it is skip Yes.
 fn is_shown(asked: u32, class: u16, flipped: u16) -> bool
-    ensures { λ r. ⌜ r ≡ shown asked class flipped ⌝ }
+    ensures { λ r. ⌜ r ≡ propsShow asked class flipped ⌝ }
 {
     let x = flipped as u32;
     verdict_skip::is_ignored_class(asked, x) | ((class != 0) & (x / 8 % 2 == 1) & (256 <= x))

@@ -6,14 +6,14 @@ use native.Mathlib.Omega.{arith}
 use borrow.Author.Needs.{needs}
 use lib.ListN.{length}
 use Rattle.book.specs.Book.{mostWords, mostLookups}
-use Rattle.book.specs.Places.{slots, sizeAt}
-use Rattle.book.specs.Starts.{Going, going-none, going-more, going-stuck, going-over, index-long, index-none, index-done, slots-none, slots-more}
+use Rattle.book.specs.Places.{startSlots, sizeAt}
+use Rattle.book.specs.Starts.{ReadSoFar, going-none, going-more, going-stuck, going-over, index-long, index-none, index-done, slots-none, slots-more}
 use Rattle.book_index.proofs.index_of.Statement.{statement}
 use Rattle.book_index.proofs.index_of.Tie as tie
 
 abbrev Inv-loop : tie.InvT-loop
 Inv-loop words starts₀ n₀ at₀ starts n at =
-    (n ≤ mostLookups) × (length words ≤ mostWords) × Going words n at × (starts ≡ slots n words)
+    (n ≤ mostLookups) × (length words ≤ mostWords) × ReadSoFar words n at × (starts ≡ startSlots n words)
 
 abbrev μ-loop : tie.MeasureT-loop
 μ-loop words starts₀ n₀ at₀ starts n at = length words - at
@@ -68,10 +68,10 @@ module _ (c : tie.Else3 Inv-loop μ-loop) where
   sized : c .before .size-at .result ≡ sizeAt ws at
   sized = c .before .size-at .ensures
 
-  on : Going ws (n + 1) (at + c .before .size-at .result)
+  on : ReadSoFar ws (n + 1) (at + c .before .size-at .result)
   on =
       let l = c .before .before .before .before .loop in
-      subst (λ (k : ℕ). Going ws (n + 1) (at + k)) (sym sized)
+      subst (λ (k : ℕ). ReadSoFar ws (n + 1) (at + k)) (sym sized)
       (going-more ws n at (l .inv .2) (c .before .before .before .loop-test .taken) (omega (arith, l .inv .0, c .before .before .if2 .left))
       (λ z. c .if3 .left (sized ∙ z)))
 

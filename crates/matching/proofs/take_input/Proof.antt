@@ -17,11 +17,11 @@ use Rattle.verdict.specs.Verdict.{Asked, valueBy, judgeAt}
 use Rattle.verdict.specs.Laws.{judged-yes, judged-rest}
 use Rattle.walk.specs.declared.Walked.{Walked}
 use Rattle.walk.specs.declared.Walked.the-variants.{Found, Stopped, RanOut}
-use Rattle.walk.specs.Walk.{after, walkFrom}
+use Rattle.walk.specs.Walk.{onVerdict, walkFrom}
 use Rattle.walk.specs.Steps.{walk-end}
 use Rattle.ligature.specs.declared.Ligbase.{Ligbase}
 use Rattle.matching.specs.declared.InputAnswer.{InputAnswer}
-use Rattle.matching.specs.Take.{ahead, Outcome, unlike, lost, having, follow, takes}
+use Rattle.matching.specs.Take.{ahead, Outcome, unlike, lost, having, followed, takes}
 use Rattle.ligature.specs.Ligature.{mayJoin, baseSkips}
 use Rattle.ligature.specs.Laws.{Known, looked-known, looked-serves}
 use Rattle.matching.specs.Matchers.{judge, joins, inputBy}
@@ -120,7 +120,7 @@ module _ (c : tie.In-loop Inv-loop μ-loop) where
 
   -- what the walk for the value that is due makes of the whole
   whole : (w : Walked) → walkFrom (on (getD values i 0)) (length gs) next ≡ w
-      → from (idx + 1) values ≡ having (going .qs) (follow ok w (λ q. from (q + 1) (drop (i + 1) values)))
+      → from (idx + 1) values ≡ having (going .qs) (followed ok w (λ q. from (q + 1) (drop (i + 1) values)))
   whole w e = turn gs on ok idx values (c .before .loop .positions) (c .before .loop .total) next i going due w e
 
 lose-requires : tie.Need-lose-requires Inv-loop μ-loop
@@ -163,7 +163,7 @@ module _ (c : tie.After-is-skip-yes Inv-loop μ-loop) where
   -- the walk, by the verdict
   walked : (r : Verdict) → judged ≡ r
       → walkFrom (on round (getD (values round) (i round) 0)) (length (gs round)) (next round)
-      ≡ after r (next round) (walkFrom (on round (getD (values round) (i round) 0)) (length (gs round)) (next round + 1))
+      ≡ onVerdict r (next round) (walkFrom (on round (getD (values round) (i round) 0)) (length (gs round)) (next round + 1))
   walked r e =
       let l = round .before .loop in
       walks (gs round) (on round) (ok round) (idx round) (values round) (l .positions) (l .total) (next round) (i round) (going round) r inside e

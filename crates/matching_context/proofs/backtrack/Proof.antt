@@ -14,7 +14,7 @@ use Rattle.verdict.specs.Verdict.{Asked, valueBy}
 use Rattle.verdict.specs.declared.Verdict.{Verdict}
 use Rattle.verdict.specs.declared.Verdict.the-variants.{Match, NotMatch, Skip}
 use Rattle.verdict.specs.Laws.{judged-yes, judged-rest}
-use Rattle.walk.specs.Walk.{afterBack, walkBack}
+use Rattle.walk.specs.Walk.{onVerdictBack, walkBack}
 use Rattle.matching.specs.declared.ContextMatch.{ContextMatch}
 use Rattle.matching.specs.Take.{behind}
 use Rattle.matching.specs.Matchers.{judge, backOn}
@@ -94,7 +94,7 @@ module _ (c : tie.After-is-skip-yes Inv-loop μ-loop) where
   -- a turn whose verdict is r
   turn : (r : Verdict) → judged ≡ r → let a = start .args in
       told behind on (length gs) (a .values .now)
-      ≡ toldBy behind on (afterBack r at (walkBack (on (getD (a .values .now) i 0)) at)) (drop (i + 1) (a .values .now))
+      ≡ toldBy behind on (onVerdictBack r at (walkBack (on (getD (a .values .now) i 0)) at)) (drop (i + 1) (a .values .now))
   turn r t =
       c .before .before .before .before .loop .inv .1
       ∙ back-turn on i (start .args .values .now) (omega arith) place at r (omega arith) t

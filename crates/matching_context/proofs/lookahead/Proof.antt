@@ -16,7 +16,7 @@ use Rattle.walk.specs.Parts.{raised}
 use Rattle.matching.specs.Take.{ahead}
 use Rattle.matching.specs.Matchers.{judge, aheadOn}
 use Rattle.matching.specs.Going.{told, toldBy, told-on, told-end}
-use Rattle.matching.specs.Onward.{Within, walk-within, walk-part}
+use Rattle.matching.specs.Onward.{WalkWithin, walk-within, walk-part}
 use Rattle.matching_context.proofs.lookahead.Statement.{statement}
 use Rattle.matching_context.proofs.lookahead.Tie as tie
 
@@ -80,7 +80,7 @@ module _ (c : tie.After-forward-from Inv-loop μ-loop) where
       (glyphsOf (c .before .before .before .before .before .onward .result .now)) (a .start) (c .before .before .before .before .count .result) (l .next) r
       (c .before .before .before .before .before .before .before .before .before .before .before .pre) (c .before .before .before .before .before .onward .ensures) (c .before .before .before .before .count .ensures) (sym e ∙ c .forward-from .ensures))
 
-  inside : (r : Walked) → c .forward-from .result ≡ r → Within (c .before .before .before .before .count .result) r
+  inside : (r : Walked) → c .forward-from .result ≡ r → WalkWithin (c .before .before .before .before .count .result) r
   inside r e =
       let a = c .before .before .before .before .before .before .before .before .before .before .before .args in
       let l = c .before .before .before .loop in

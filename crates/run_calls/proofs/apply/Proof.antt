@@ -8,13 +8,13 @@ use Rattle.run.specs.Run.{begun, chainRun, movedLevel}
 use Rattle.run.specs.Deeds.{ruled}
 use Rattle.run_cycle.specs.Cycle.{level-neat}
 use Rattle.run_calls.specs.Calls.{runSays}
-use Rattle.run_calls.specs.declared.Refusal.the-variants.{Match}
+use Rattle.run_calls.specs.declared.RunRefusal.the-variants.{Match}
 use Rattle.run_calls.specs.CallLaws.{said-refused, said-whole, match-bad, match-good, end-is, places-show, open-asks, level-sound, first-sound, whole-first}
 use Rattle.run_calls.proofs.Cases.{other}
 use borrow.Author.Needs.{needs}
 use Rattle.run_calls.proofs.apply.Statement.{statement}
 use Rattle.run_calls.proofs.apply.Tie as tie
-use Rattle.matching.specs.Answers.{endOf}
+use Rattle.matching.specs.Answers.{matchEnd}
 
 enum-known-answer : tie.Need-enum-known-answer
 enum-known-answer c = search needs
@@ -47,7 +47,7 @@ same-length-2 : tie.Need-same-length-2
 same-length-2 c = search needs
 
 returns-3 : tie.Need-returns-3
-returns-3 c = let a = c .before .before .before .before .before .before .before .before .before .before .before .before .before .before .before .before .before .before .before .before .before .args in let e = c .before .before .before .before .before .before .before .before .before .before .before .before .before .before .answer .given in let g = c .before .before .before .before .go in said-whole _ (runSays (record { done = a .done .now; coming = a .coming .now; place = a .place; sets = a .sets .now; book = a .book .now; records = a .records .now; match = a .matched; given = a .given }) (a .allowance) (a .depth)) (a .done .now) (a .coming .now) (g .last .0) (g .last .1 .0) (g .result) (match-good (a .place .idx) (e .0 .0) (e .0 .1 .0) (a .matched .count) (a .matched .positions) (a .matched .answer) (e .1) (sym (c .before .before .before .before .before .before .before .before .before .before .is-level .ensures) ∙ not-false _ (c .before .before .before .before .before .before .before .before .before .if1 .left))) (whole-first (chainRun (ruled (a .given) (a .sets .now)) (lookupsOf (a .book .now)) (a .depth) (recordsOf (a .records .now))) (begun (a .allowance) (textOf (a .done .now) (a .coming .now) (a .place))) (c .before .before .before .before .before .before .before .open .result) (a .place .idx) (a .place .d) (take (a .matched .count) (a .matched .positions)) (e .0 .0) (endOf (a .matched .answer)) (g .last .0) (g .last .1 .0) (g .result) (c .before .before .before .before .before .before .before .open .ensures) (end-is (a .place .idx) (e .0 .0) (e .0 .1 .0) (a .matched .count) (a .matched .positions) (a .matched .answer) (e .1)) (g .ensures))
+returns-3 c = let a = c .before .before .before .before .before .before .before .before .before .before .before .before .before .before .before .before .before .before .before .before .before .args in let e = c .before .before .before .before .before .before .before .before .before .before .before .before .before .before .answer .given in let g = c .before .before .before .before .go in said-whole _ (runSays (record { done = a .done .now; coming = a .coming .now; place = a .place; sets = a .sets .now; book = a .book .now; records = a .records .now; match = a .matched; given = a .given }) (a .allowance) (a .depth)) (a .done .now) (a .coming .now) (g .last .0) (g .last .1 .0) (g .result) (match-good (a .place .idx) (e .0 .0) (e .0 .1 .0) (a .matched .count) (a .matched .positions) (a .matched .answer) (e .1) (sym (c .before .before .before .before .before .before .before .before .before .before .is-level .ensures) ∙ not-false _ (c .before .before .before .before .before .before .before .before .before .if1 .left))) (whole-first (chainRun (ruled (a .given) (a .sets .now)) (lookupsOf (a .book .now)) (a .depth) (recordsOf (a .records .now))) (begun (a .allowance) (textOf (a .done .now) (a .coming .now) (a .place))) (c .before .before .before .before .before .before .before .open .result) (a .place .idx) (a .place .d) (take (a .matched .count) (a .matched .positions)) (e .0 .0) (matchEnd (a .matched .answer)) (g .last .0) (g .last .1 .0) (g .result) (c .before .before .before .before .before .before .before .open .ensures) (end-is (a .place .idx) (e .0 .0) (e .0 .1 .0) (a .matched .count) (a .matched .positions) (a .matched .answer) (e .1)) (g .ensures))
 
 pub apply-spec : {M : Type 1} → statement M
 apply-spec =

@@ -10,7 +10,7 @@ use Rattle.glyph.specs.Glyph.{glyphsOf}
 use Rattle.text.specs.Laws.{sizes}
 use Rattle.verdict.specs.Verdict.{Asked, valueBy}
 use Rattle.matching.specs.Matchers.{inputOn, aheadOn, backOn}
-use Rattle.matching.specs.Answers.{inputTold, endOf}
+use Rattle.matching.specs.Answers.{inputTold, matchEnd}
 use Rattle.book.specs.Book.{Chain}
 use Rattle.run.specs.Run.{movedLevel}
 use Rattle.run.specs.Chain.{isTaken, itself}
@@ -47,7 +47,7 @@ module _ (c : tie.After-end-of) where
 
 module _ (c : tie.After-is-ahead) where
   asked-ahead : let a = c .before .before .before .before .before .before .before .before .before .before .before .before .before .before .before .before .args in
-      isTaken (aheadOn (a .q) (a .sets .now) itself (glyphsOf (a .coming .now)) (endOf (c .before .before .before .before .match-values .result .answer)) (c .before .before .before .before .before .before .before .before .read .result .syllable) (chain (c .before .before .before .before .before .before .before .before .before .before .before .before .before .before .before .before) .lookahead))
+      isTaken (aheadOn (a .q) (a .sets .now) itself (glyphsOf (a .coming .now)) (matchEnd (c .before .before .before .before .match-values .result .answer)) (c .before .before .before .before .before .before .before .before .read .result .syllable) (chain (c .before .before .before .before .before .before .before .before .before .before .before .before .before .before .before .before) .lookahead))
       ≡ c .is-ahead .result
   asked-ahead =
       let a = c .before .before .before .before .before .before .before .before .before .before .before .before .before .before .before .before .args in

@@ -1,15 +1,15 @@
 -- The test is the definition's. Assumes nothing.
 use borrow.Author.Tests.{le-leb, lt-leb}
-use Rattle.run_record_structs.specs.Records.{kept}
+use Rattle.run_record_structs.specs.Records.{pairsKept}
 use Rattle.run_record_structs.proofs.at_most.Statement.{statement}
 use Rattle.run_record_structs.proofs.at_most.Tie as tie
 
 returns : tie.Need-returns
-unfolding kept
+unfolding pairsKept
 returns c = rw (le-leb _ _ (c .if1 .taken))
 
 returns-2 : tie.Need-returns-2
-unfolding kept
+unfolding pairsKept
 returns-2 c = rw (lt-leb _ _ (c .if1 .left))
 
 pub at-most-spec : {M : Type 1} → statement M

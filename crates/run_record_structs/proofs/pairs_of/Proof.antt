@@ -47,7 +47,7 @@ use denote.Triple.Table.{entered, cited}
 use denote.Triple.Walked.{says, Stays, stay-none-slice, walkOf, goes-none-slice, Walks, ends-at, walked, walk-meets}
 use denote.Exit.{yes}
 use denote.Triple.Clauses.{ensured, lasts}
-use Rattle.run_record_structs.specs.Records.{mostKept, kept, none, empty, added, Filled}
+use Rattle.run_record_structs.specs.Records.{mostPairs, pairsKept, noRecord, noPairs, withPair, Filled}
 use Rattle.run_record_structs.specs.Laws.{filled-none, filled-room, filled-more, kept-few}
 use Rattle.run_record_structs.specs.declared.Record.{Record}
 use Rattle.run_record_structs.specs.declared.Pairs.{Pairs}
@@ -123,7 +123,7 @@ module _ {M : Type 1} (𝓤 : URA M) (H : Heap 𝓤) (A : Atoms 𝓤) (W : Given
 
   -- how many are read
   abbrev m : ℕ
-  m = kept n
+  m = pairsKept n
 
   abbrev vx : Val
   vx = sliceVal (x .ptr) n
@@ -154,8 +154,8 @@ module _ {M : Type 1} (𝓤 : URA M) (H : Heap 𝓤) (A : Atoms 𝓤) (W : Given
   none-asked : ent 𝓤 (sem 𝓤 H A ftrue) (NoneYet 𝓤 H A mem run .pre to-none)
   none-asked = qed W (‵ ftrue ∷ []) ∵ nothing ! $ join ! $ frame ! $ done !
 
-  none-said : (p : Pairs) → ent 𝓤 (ensured 𝓤 H A none-yet.ended (none-yet.clauses 𝓤 H A mem run) tt tt tt p) (fact 𝓤 (p ≡ empty))
-  none-said p = exE 𝓤 _ (λ ws. snd∗ 𝓤 (sem 𝓤 H A (lasts none-yet.ended tt tt ws)) (fact 𝓤 (p ≡ empty)))
+  none-said : (p : Pairs) → ent 𝓤 (ensured 𝓤 H A none-yet.ended (none-yet.clauses 𝓤 H A mem run) tt tt tt p) (fact 𝓤 (p ≡ noPairs))
+  none-said p = exE 𝓤 _ (λ ws. snd∗ 𝓤 (sem 𝓤 H A (lasts none-yet.ended tt tt ws)) (fact 𝓤 (p ≡ noPairs)))
 
   -- the call of `record_at`, at i
   abbrev to-record : ℕ → RecordAt 𝓤 H A mem run .Ghost
@@ -166,20 +166,20 @@ module _ {M : Type 1} (𝓤 : URA M) (H : Heap 𝓤) (A : Atoms 𝓤) (W : Given
       qed W ((‵ (flft κ q) ⊛ ‵ ftrue) ∷ ‵ Own ∷ []) ∵ says ! l $ frame ! $
       nothing ! $ owned ! usize (Is usize) (uint-makes 𝓤 H A W w64) i _ (refl, f) $ fjoin ! $ move ! (1 ∷ 0 ∷ []) $ fjoin ! $ done !
 
-  record-said : (i : ℕ) (r : Record) → ent 𝓤 (ensured 𝓤 H A record-at.ended (record-at.clauses 𝓤 H A mem run) (κ, tt) (x, (i, tt)) tt r) (fact 𝓤 (r ≡ getD ys i none))
-  record-said i r = exE 𝓤 _ (λ ws. snd∗ 𝓤 (sem 𝓤 H A (lasts record-at.ended (κ, tt) (x, (i, tt)) ws)) (fact 𝓤 (r ≡ getD ys i none)))
+  record-said : (i : ℕ) (r : Record) → ent 𝓤 (ensured 𝓤 H A record-at.ended (record-at.clauses 𝓤 H A mem run) (κ, tt) (x, (i, tt)) tt r) (fact 𝓤 (r ≡ getD ys i noRecord))
+  record-said i r = exE 𝓤 _ (λ ws. snd∗ 𝓤 (sem 𝓤 H A (lasts record-at.ended (κ, tt) (x, (i, tt)) ws)) (fact 𝓤 (r ≡ getD ys i noRecord)))
 
   -- the call of `add`, of a record r after p
   abbrev to-add : Pairs → Val → Record → Val → Add 𝓤 H A mem run .Ghost
   to-add p u r v = ((tt, tt, tt, (p, (r, tt)), (u ∷ [], (v ∷ [], tt))), tt)
 
-  add-asked : (p : Pairs) (u : Val) (r : Record) (v : Val) → p .n < mostKept → Is P.the-row p (u ∷ []) → Is T.the-row r (v ∷ []) → ent 𝓤 (sem 𝓤 H A ftrue) (Add 𝓤 H A mem run .pre (to-add p u r v))
+  add-asked : (p : Pairs) (u : Val) (r : Record) (v : Val) → p .n < mostPairs → Is P.the-row p (u ∷ []) → Is T.the-row r (v ∷ []) → ent 𝓤 (sem 𝓤 H A ftrue) (Add 𝓤 H A mem run .pre (to-add p u r v))
   add-asked p u r v room is-p is-r =
       qed W (‵ ftrue ∷ []) ∵ says ! room $ frame ! $ nothing ! $ owned ! T.the-row (Is T.the-row) (LL.makes T.the-type T′.the-plain 𝓤 H A) r _ is-r $ fjoin ! $
       owned ! P.the-row (Is P.the-row) (LL.makes P.the-type P′.the-plain 𝓤 H A) p _ is-p $ fjoin ! $ done !
 
-  add-said : (p : Pairs) (r : Record) (t : Pairs) → ent 𝓤 (ensured 𝓤 H A add.ended (add.clauses 𝓤 H A mem run) tt (p, (r, tt)) tt t) (fact 𝓤 (t ≡ added p r))
-  add-said p r t = exE 𝓤 _ (λ ws. snd∗ 𝓤 (sem 𝓤 H A (lasts add.ended tt (p, (r, tt)) ws)) (fact 𝓤 (t ≡ added p r)))
+  add-said : (p : Pairs) (r : Record) (t : Pairs) → ent 𝓤 (ensured 𝓤 H A add.ended (add.clauses 𝓤 H A mem run) tt (p, (r, tt)) tt t) (fact 𝓤 (t ≡ withPair p r))
+  add-said p r t = exE 𝓤 _ (λ ws. snd∗ 𝓤 (sem 𝓤 H A (lasts add.ended tt (p, (r, tt)) ws)) (fact 𝓤 (t ≡ withPair p r)))
 
   exits : (p : Pairs) (u : Val) → Is P.the-row p (u ∷ []) → Filled (take m ys) p → ent 𝓤 (⋆ 𝓤 H A ((‵ (flft κ q) ⊛ ‵ ftrue) ∷ ‵ Own ∷ [])) (Post u)
   exits p u is-p e =
@@ -224,8 +224,8 @@ module _ {M : Type 1} (𝓤 : URA M) (H : Heap 𝓤) (A : Atoms 𝓤) (W : Given
     Left = afterBlock 𝓤 H (afterSeq 𝓤 H (Wp 𝓤 H C Λ En body.t-6 (atReturn 𝓤 H En Post)) (atReturn 𝓤 H En Post))
 
     -- a turn that adds one record
-    more : (i : ℕ) (p : Pairs) (u : Val) (X : SProp 𝓤) → i < m → p .n < mostKept → Is P.the-row p (u ∷ [])
-        → ((w : Val) → Is P.the-row (added p (getD ys i none)) (w ∷ []) → ent 𝓤 (⋆ 𝓤 H A (At (i + 1) w)) X)
+    more : (i : ℕ) (p : Pairs) (u : Val) (X : SProp 𝓤) → i < m → p .n < mostPairs → Is P.the-row p (u ∷ [])
+        → ((w : Val) → Is P.the-row (withPair p (getD ys i noRecord)) (w ∷ []) → ent 𝓤 (⋆ 𝓤 H A (At (i + 1) w)) X)
         → ent 𝓤 (⋆ 𝓤 H A (At i u)) (Wp 𝓤 H C Λ En body.turn-1 (afterTurn 𝓤 H X Left))
     unfolding afterTurn
     more i p u X small fits is-p k =
@@ -238,20 +238,20 @@ module _ {M : Type 1} (𝓤 : URA M) (H : Heap 𝓤) (A : Atoms 𝓤) (W : Given
         -- [what `record_at` asks; what records owns; _3; _4; _5; _2; _7; _1; _6; _0; …]
         calls-at ! fm (RecordAt 𝓤 H A mem run) (known .record-at) (to-record i) (and-then ! (load ! (from ! (stop !)) (look ! 7 refl)) (and-then ! (load ! (from ! (stop !)) (look ! 3 refl)) (no-more !))) (λ v.
         use1 W (later (some (λ (r : Record). ((‵ (flft κ q) ⊛ ‵ ftrue) ⊛ ‵ (T.the-row .own r (v ∷ []))) ⊛ raw (ensured 𝓤 H A record-at.ended (record-at.clauses 𝓤 H A mem run) (κ, tt) (x, (i, tt)) tt r)))) (id⊢ 𝓤 _) $ await ! tt $ pick ! (λ r.
-        split ! $ move ! (1 ∷ []) $ use1 W (raw (fact 𝓤 (r ≡ getD ys i none))) (record-said i r) $ heard ! (r ≡ getD ys i none) (λ e. split ! $ move ! (1 ∷ []) $
+        split ! $ move ! (1 ∷ []) $ use1 W (raw (fact 𝓤 (r ≡ getD ys i noRecord))) (record-said i r) $ heard ! (r ≡ getD ys i noRecord) (λ e. split ! $ move ! (1 ∷ []) $
         -- [the record; the token; what records owns; _3; _4; _5; …]
         peeks ! T.the-row (Is T.the-row) (shows 𝓤 H A T.the-row) r (v ∷ []) (λ is-r.
         land ! (from ! (stop !)) (init ! 5 refl (LL.lawful T.the-type T′.the-laws 𝓤 H A W .typed r _ is-r .0)) $
         drops ! $ nothing ! $ use1 W (raw (Add 𝓤 H A mem run .pre (to-add p u r v))) (add-asked p u r v fits is-p is-r) $
         calls-at ! fm (Add 𝓤 H A mem run) (known .add) (to-add p u r v) (and-then ! (load ! (from ! (stop !)) (look ! 3 refl)) (and-then ! (load ! (from ! (stop !)) (look ! 5 refl)) (no-more !))) (λ w.
         use1 W (later (some (λ (t : Pairs). (‵ ftrue ⊛ ‵ (P.the-row .own t (w ∷ []))) ⊛ raw (ensured 𝓤 H A add.ended (add.clauses 𝓤 H A mem run) tt (p, (r, tt)) tt t)))) (id⊢ 𝓤 _) $ await ! tt $ pick ! (λ t.
-        split ! $ move ! (1 ∷ []) $ use1 W (raw (fact 𝓤 (t ≡ added p r))) (add-said p r t) $ heard ! (t ≡ added p r) (λ e′. split ! $ drops ! $
+        split ! $ move ! (1 ∷ []) $ use1 W (raw (fact 𝓤 (t ≡ withPair p r))) (add-said p r t) $ heard ! (t ≡ withPair p r) (λ e′. split ! $ drops ! $
         -- [the pairs; the token; what records owns; _3; _4; _5; …]
         peeks ! P.the-row (Is P.the-row) (shows 𝓤 H A P.the-row) t (w ∷ []) (λ is-t.
         land ! (from ! (stop !)) (store ! 3 refl (LL.lawful P.the-type P′.the-laws 𝓤 H A W .typed t _ is-t .0)) $ drops ! $
         assigns-last ! (bin ! (load ! (from ! (stop !)) (look ! 3 refl)) (lit ! tt) (record { fits = next-fits })) (from ! (stop !)) (store ! 3 refl (tt, record { fits = next-fits })) $
         forget ! 4 refl $ forget ! 6 refl $ move ! (2 ∷ 3 ∷ 4 ∷ 5 ∷ 6 ∷ 7 ∷ 8 ∷ 9 ∷ 0 ∷ 1 ∷ []) $
-        by ! (k w (subst (λ (y : Pairs). Is P.the-row y (w ∷ [])) (e′ ∙ ap (added p) e) is-t))))))))))
+        by ! (k w (subst (λ (y : Pairs). Is P.the-row y (w ∷ [])) (e′ ∙ ap (withPair p) e) is-t))))))))))
       where
         i-small : i < n
         i-small = omega (arith, kept-few n .0)
@@ -293,9 +293,9 @@ module _ {M : Type 1} (𝓤 : URA M) (H : Heap 𝓤) (A : Atoms 𝓤) (W : Given
     turn-by t i p u f true h =
         let small : i < m = ltb-true i m h in
         let here : i < n = omega (arith, small, kept-few n .0) in
-        let fits : i < mostKept = omega (arith, small, kept-few n .1) in
+        let fits : i < mostPairs = omega (arith, small, kept-few n .1) in
         more i p u (Below t) small (filled-room ys i p here fits (f .2)) (f .3)
-        (λ w is-w. below t (i + 1) (added p (getD ys i none)) w (omega (arith, small, f .0)) (refl, omega (arith, small), filled-more ys i p here fits (f .2), is-w))
+        (λ w is-w. below t (i + 1) (withPair p (getD ys i noRecord)) w (omega (arith, small, f .0)) (refl, omega (arith, small), filled-more ys i p here fits (f .2), is-w))
     turn-by t i p u f false h =
         let large : m ≤ i = ltb-false i m h in
         let e : i ≡ m = omega (arith, large, f .1) in
@@ -307,8 +307,8 @@ module _ {M : Type 1} (𝓤 : URA M) (H : Heap 𝓤) (A : Atoms 𝓤) (W : Given
         exE 𝓤 (λ (p : Pairs). ex 𝓤 (λ (u : Val). guard 𝓤 (Facts t i p u) (⋆ 𝓤 H A (At i u)))) (λ p.
         exE 𝓤 (λ (u : Val). guard 𝓤 (Facts t i p u) (⋆ 𝓤 H A (At i u))) (λ u. guardE 𝓤 (Facts t i p u) (⋆ 𝓤 H A (At i u)) (λ f. turn-by t i p u f (ltb i m) refl))))
 
-    loops : (i : ℕ) (u : Val) → Filled (take i ys) empty → i ≤ m → Is P.the-row empty (u ∷ []) → ent 𝓤 (⋆ 𝓤 H A (At i u)) (Wp 𝓤 H C Λ En (loop body.turn-1) Left)
-    loops i u f few is-u = via 𝓤 (Inv (m - i)) (hides (m - i) i empty u (refl, few, f, is-u)) (loop-rule 𝓤 H (W .laws) 𝓣 _<_ (Nat·lt-wfRel .wf) En body.turn-1 Left Inv turns (m - i))
+    loops : (i : ℕ) (u : Val) → Filled (take i ys) noPairs → i ≤ m → Is P.the-row noPairs (u ∷ []) → ent 𝓤 (⋆ 𝓤 H A (At i u)) (Wp 𝓤 H C Λ En (loop body.turn-1) Left)
+    loops i u f few is-u = via 𝓤 (Inv (m - i)) (hides (m - i) i noPairs u (refl, few, f, is-u)) (loop-rule 𝓤 H (W .laws) 𝓣 _<_ (Nat·lt-wfRel .wf) En body.turn-1 Left Inv turns (m - i))
 
     -- where the body begins: [room for _7; …; _6; …; _5; …; _4; …; _3; …; _2; …; _1; …; room for _0; …; the token; what records owns]
     abbrev Entered : List (Item 𝓤)
@@ -316,7 +316,7 @@ module _ {M : Type 1} (𝓤 : URA M) (H : Heap 𝓤) (A : Atoms 𝓤) (W : Given
         ∷ ‵ (froom Pt l₃ 0) ∷ ‵ (fdies Pt l₃) ∷ ‵ (froom word l₂ 0) ∷ ‵ (fdies word l₂) ∷ ‵ (fat fullShare slice l₁ 0 vx) ∷ ‵ (fdies slice l₁) ∷ ‵ (froom Pt l₀ 0) ∷ ‵ (fdies Pt l₀)
         ∷ (‵ (flft κ q) ⊛ ‵ ftrue) ∷ ‵ (owns (ShrSlice (named 0) κ T.the-row ∷ []) (x, tt) at) ∷ []
 
-    to-loop : (i : ℕ) (u : Val) → Filled (take i ys) empty → i ≤ m → Is P.the-row empty (u ∷ []) → ent 𝓤 (⋆ 𝓤 H A (At i u)) (Wp 𝓤 H C Λ En body.t-5 (atReturn 𝓤 H En Post))
+    to-loop : (i : ℕ) (u : Val) → Filled (take i ys) noPairs → i ≤ m → Is P.the-row noPairs (u ∷ []) → ent 𝓤 (⋆ 𝓤 H A (At i u)) (Wp 𝓤 H C Λ En body.t-5 (atReturn 𝓤 H En Post))
     to-loop = loops
 
     starts : ent 𝓤 (⋆ 𝓤 H A Entered) (Wp 𝓤 H C Λ En body.t-1 (atReturn 𝓤 H En Post))
@@ -332,7 +332,7 @@ module _ {M : Type 1} (𝓤 : URA M) (H : Heap 𝓤) (A : Atoms 𝓤) (W : Given
         nothing ! $ use1 W (raw (NoneYet 𝓤 H A mem run .pre to-none)) none-asked $
         calls-at ! fm (NoneYet 𝓤 H A mem run) (known .none-yet) to-none (no-more !) (λ u.
         use1 W (later (some (λ (t : Pairs). (‵ ftrue ⊛ ‵ (P.the-row .own t (u ∷ []))) ⊛ raw (ensured 𝓤 H A none-yet.ended (none-yet.clauses 𝓤 H A mem run) tt tt tt t)))) (id⊢ 𝓤 _) $ await ! tt $ pick ! (λ t.
-        split ! $ move ! (1 ∷ []) $ use1 W (raw (fact 𝓤 (t ≡ empty))) (none-said t) $ heard ! (t ≡ empty) (λ e′. split ! $ drops ! $
+        split ! $ move ! (1 ∷ []) $ use1 W (raw (fact 𝓤 (t ≡ noPairs))) (none-said t) $ heard ! (t ≡ noPairs) (λ e′. split ! $ drops ! $
         peeks ! P.the-row (Is P.the-row) (shows 𝓤 H A P.the-row) t (u ∷ []) (λ is-t.
         land ! (from ! (stop !)) (init ! 9 refl (LL.lawful P.the-type P′.the-laws 𝓤 H A W .typed t _ is-t .0)) $ drops ! $
         assigns ! (of-opd ! (lit ! tt)) (from ! (stop !)) (init ! 6 refl (tt, record { fits = lit< tt })) $

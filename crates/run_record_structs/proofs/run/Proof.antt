@@ -47,7 +47,7 @@ use Rattle.run.proofs.Given.Laws as G′
 use Rattle.run_calls.specs.declared.RunAnswer.{RunAnswer}
 use Rattle.run_calls.proofs.RunAnswer as R
 use Rattle.run_calls.proofs.RunAnswer.Laws as R′
-use Rattle.run_record_structs.specs.Records.{wordsOf, mostKept, kept, Filled}
+use Rattle.run_record_structs.specs.Records.{recordWords, mostPairs, pairsKept, Filled}
 use Rattle.run_record_structs.specs.Laws.{filled-fits, SaidOf, said-filled}
 use Rattle.run_record_structs.specs.declared.Record.{Record}
 use Rattle.run_record_structs.specs.declared.Pairs.{Pairs}
@@ -168,7 +168,7 @@ module _ {M : Type 1} (𝓤 : URA M) (H : Heap 𝓤) (A : Atoms 𝓤) (W : Given
   pairs-asked = qed W (Token ∷ ‵ Own-r ∷ []) ∵ nothing ! $ move ! (2 ∷ 0 ∷ []) $ fjoin ! $ move ! (1 ∷ 0 ∷ []) $ join ! $ frame ! $ done !
 
   abbrev Read : Pairs → Type 0
-  Read p = Filled (take (kept (length (rs .now))) (rs .now)) p
+  Read p = Filled (take (pairsKept (length (rs .now))) (rs .now)) p
 
   pairs-said : (p : Pairs) → ent 𝓤 (ensured 𝓤 H A pairs-of.ended (pairs-of.clauses 𝓤 H A mem run) (κ₄, tt) (rs, tt) tt p) (fact 𝓤 (Read p))
   pairs-said p = exE 𝓤 _ (λ ws. snd∗ 𝓤 (sem 𝓤 H A (lasts pairs-of.ended (κ₄, tt) (rs, tt) ws)) (fact 𝓤 (Read p)))
@@ -185,7 +185,7 @@ module _ {M : Type 1} (𝓤 : URA M) (H : Heap 𝓤) (A : Atoms 𝓤) (W : Given
   abbrev Passed : Item 𝓤
   Passed = Tokens ⊛ ‵ Own-x ⊛ ‵ Own-y ⊛ ‵ Own-s ⊛ ‵ Own-b
 
-  run-asked : (p : Pairs) (u : Val) → (p .n ≤ mostKept) × (length (p .words) ≡ 2 * mostKept) → Is P.the-row p (u ∷ []) → ent 𝓤 (⋆ 𝓤 H A (Passed ∷ [])) (RunPairs 𝓤 H A mem run .pre (to-run p u))
+  run-asked : (p : Pairs) (u : Val) → (p .n ≤ mostPairs) × (length (p .words) ≡ 2 * mostPairs) → Is P.the-row p (u ∷ []) → ent 𝓤 (⋆ 𝓤 H A (Passed ∷ [])) (RunPairs 𝓤 H A mem run .pre (to-run p u))
   run-asked p u fits is-p =
       qed W (Passed ∷ []) ∵ says ! fits $ split ! $ frame ! $ split ! $ move ! (1 ∷ []) $ split ! $ move ! (1 ∷ []) $ split ! $
       -- [sets; book; coming; done]
@@ -218,7 +218,7 @@ module _ {M : Type 1} (𝓤 : URA M) (H : Heap 𝓤) (A : Atoms 𝓤) (W : Given
       move ! (1 ∷ 3 ∷ []) $ join ! $ move ! (5 ∷ 0 ∷ []) $ join ! $ move ! (5 ∷ 0 ∷ []) $ join ! $ move ! (5 ∷ 0 ∷ []) $ join ! $
       move ! (1 ∷ 0 ∷ []) $ frame ! $ frame ! $ frame ! $ frame ! $ done !
 
-  exits : (r : RunAnswer) (w : Val) (xs zs : List ℕ) → Says xs zs r (wordsOf (rs .now)) → length xs ≡ length (x .now) → length zs ≡ length (y .now)
+  exits : (r : RunAnswer) (w : Val) (xs zs : List ℕ) → Says xs zs r (recordWords (rs .now)) → length xs ≡ length (x .now) → length zs ≡ length (y .now)
       → ent 𝓤 (⋆ 𝓤 H A (Tokens ∷ Token ∷ ‵ (finally u32 (x .name) xs) ∷ ‵ (finally u32 (y .name) zs) ∷ ‵ Own-s ∷ ‵ Own-b ∷ ‵ Own-r ∷ ‵ (R.the-row .own r (w ∷ [])) ∷ [])) (Post w)
   exits r w xs zs e same-x same-y =
       qed W (Tokens ∷ Token ∷ ‵ (finally u32 (x .name) xs) ∷ ‵ (finally u32 (y .name) zs) ∷ ‵ Own-s ∷ ‵ Own-b ∷ ‵ Own-r ∷ ‵ (R.the-row .own r (w ∷ [])) ∷ []) ∵

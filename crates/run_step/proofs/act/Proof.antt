@@ -3,7 +3,7 @@ use mathlib.Core.Path.{refl}
 use native.Mathlib.Omega.{arith}
 use lib.ListN.{length, length-take, length-drop}
 use Rattle.book.specs.Book.{mostIds}
-use Rattle.book.specs.Inside.{Inside}
+use Rattle.book.specs.Inside.{PartInside}
 use Rattle.run_step.specs.Steps.{limit-most}
 use borrow.Author.Needs.{needs}
 use Rattle.run_step.proofs.act.Statement.{statement}
@@ -20,7 +20,7 @@ enum-known-e-2 c = search needs
 
 -- the ids of the entry
 module _ (c : tie.After-act-many-arg2) where
-  ids-inside : Inside (length (c .before .before .before .before .before .before .before .before .args .book .now)) mostIds (c .before .before .before .e2 .given .0 .1 .1 .0)
+  ids-inside : PartInside (length (c .before .before .before .before .before .before .before .before .args .book .now)) mostIds (c .before .before .before .e2 .given .0 .1 .1 .0)
   ids-inside = rw (c .before .before .before .e2 .given .1) at (c .before .before .before .before .before .before .before .before .pre .2)
 
 mul-act-many : tie.Need-mul-act-many

@@ -5,7 +5,7 @@ use mathlib.Core.List.{[], _∷_, _++_}
 use native.Mathlib.Omega.{arith}
 use lib.ListN.{length, take, length-append}
 use Rattle.tape_frame.specs.Line.{digitsOf, half}
-use Rattle.tape_answer.specs.Line.{newline, halves, matchedBytes, ended}
+use Rattle.tape_answer.specs.Line.{newline, halves, matchedBytes, withNewline}
 use Rattle.tape_answer.specs.LineLaws.{length-halves}
 use Rattle.tape_frame.specs.Put.{put-then}
 use borrow.Author.Needs.{needs}
@@ -58,7 +58,7 @@ same-length : tie.Need-same-length
 same-length c = search needs
 
 returns : tie.Need-returns
-unfolding digitsOf ended
+unfolding digitsOf withNewline
 returns c =
     let a = c .before .before .before .before .before .before .before .before .before .before .before .before .before .before .before .before .before .before .before .before .before .before .before .before .before .before .args in
     let h = c .before .before .before .before .before .before .before .before .before .before .before .before .before .before .before .before .before .before .before .before .before .before .before .before .before .before .pre in

@@ -4,7 +4,7 @@ use mathlib.Core.Path.{refl}
 use mathlib.Core.List.{[], _∷_}
 use native.Mathlib.Omega.{arith}
 use Rattle.tape_frame.specs.Line.{digitsOf}
-use Rattle.tape_answer.specs.Line.{newline, ended}
+use Rattle.tape_answer.specs.Line.{newline, withNewline}
 use Rattle.tape_frame.specs.Put.{put-then}
 use borrow.Author.Needs.{needs}
 use Rattle.tape_answer.proofs.put_number.Statement.{statement}
@@ -23,7 +23,7 @@ same-length : tie.Need-same-length
 same-length c = search needs
 
 returns : tie.Need-returns
-unfolding digitsOf ended
+unfolding digitsOf withNewline
 returns c =
     let a = c .before .before .before .before .before .before .before .before .before .args in
     record {

@@ -8,7 +8,7 @@ use mathlib.Core.Bool.{Bool, cond}
 use native.Mathlib.Omega.{arith}
 use borrow.Author.Tests.{not-true, not-false}
 use Rattle.tape_frame.specs.Digits.{bytesOf}
-use Rattle.tape_frame.specs.Frame.{mostBytes, none, readBytes, frameOf}
+use Rattle.tape_frame.specs.Frame.{mostBytes, notFrame, readBytes, frameOf}
 use Rattle.tape_frame.specs.FrameLaws.{long-none}
 use Rattle.tape_frame.specs.DecodingLaws.{decodes-none}
 use borrow.Author.Needs.{needs}
@@ -32,7 +32,7 @@ returns-2 c =
     let a = c .before .before .before .before .before .before .args in
     let line = a .line .now in
     decodes-none (frameOf line) (a .values .now) (a .done .now) (a .coming .now)
-    (ap (λ (t : Bool). cond t (readBytes (bytesOf line)) none)
+    (ap (λ (t : Bool). cond t (readBytes (bytesOf line)) notFrame)
     (sym (c .before .before .unhex .ensures .0) ∙ not-true (c .before .before .unhex .result) (c .if2 .taken)))
 
 sub-read-bytes : tie.Need-sub-read-bytes

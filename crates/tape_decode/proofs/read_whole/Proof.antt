@@ -4,7 +4,7 @@ use mathlib.Core.Bool.{Bool, true, cond}
 use native.Mathlib.Omega.{arith}
 use borrow.Author.Tests.{not-true, not-false}
 use Rattle.tape_frame.specs.declared.Decoded.{Decoded}
-use Rattle.tape_frame.specs.Frame.{that, none, isWhole, frameIn, whole}
+use Rattle.tape_frame.specs.Frame.{aFrame, notFrame, isWhole, frameIn, wholeFrame}
 use Rattle.tape_frame.specs.Decoding.{Bounded}
 use Rattle.tape_frame.specs.DecodingLaws.{head-bounded, decodes-none, rows-values, rows-done, rows-coming}
 use Rattle.tape_frame.specs.Put.{put}
@@ -26,8 +26,8 @@ is-whole-requires c κs = search needs
 returns : tie.Need-returns
 returns c =
     let a = c .before .before .before .args in
-    decodes-none (whole (a .table) (a .b .now)) (a .values .now) (a .done .now) (a .coming .now)
-    (ap (λ (t : Bool). cond t (that (frameIn (a .table) (a .b .now))) none)
+    decodes-none (wholeFrame (a .table) (a .b .now)) (a .values .now) (a .done .now) (a .coming .now)
+    (ap (λ (t : Bool). cond t (aFrame (frameIn (a .table) (a .b .now))) notFrame)
     (sym (c .before .is-whole .ensures) ∙ not-true (c .before .is-whole .result) (c .if1 .taken)))
 
 head-of-requires : tie.Need-head-of-requires

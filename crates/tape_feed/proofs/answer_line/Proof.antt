@@ -7,7 +7,7 @@ use Rattle.tape_answer.specs.LineLaws.{number-fits}
 use Rattle.tape_answer.specs.Answer.{answerLine}
 use Rattle.tape_frame.specs.DecodingLaws.{none-told, frame-told, told-bounded}
 use Rattle.tape_answer.specs.AnswerLaws.{told-answer}
-use Rattle.tape_frame.specs.Frame.{mostValues, mostRecords, frameOf}
+use Rattle.tape_frame.specs.Frame.{mostValues, mostGlyphs, frameOf}
 use borrow.Author.Needs.{needs}
 use Rattle.tape_feed.proofs.answer_line.Statement.{statement}
 use Rattle.tape_feed.proofs.answer_line.Tie as tie
@@ -53,7 +53,7 @@ returns-2 c =
     let h = c .before .before .before .before .before .before .before .before .before .h .given .0 .0 in
     let t = frame-told (frameOf line) h (sym (c .before .before .before .before .before .before .before .before .before .h .given .1) ∙ d .ensures .answers) in
     let p = c .before .before .put-answer .ensures in
-    (rw (← told-answer line h t (d .result) (replicate mostValues 0) (d .last .1 .0) (replicate (words * mostRecords) 0) (d .last .1 .1 .0) (replicate (words * mostRecords) 0) (d .last .1 .1 .1 .0) (d .ensures) refl refl refl, ← c .before .before .before .before .ask .ensures) (p .0), p .1)
+    (rw (← told-answer line h t (d .result) (replicate mostValues 0) (d .last .1 .0) (replicate (words * mostGlyphs) 0) (d .last .1 .1 .0) (replicate (words * mostGlyphs) 0) (d .last .1 .1 .1 .0) (d .ensures) refl refl refl, ← c .before .before .before .before .ask .ensures) (p .0), p .1)
 
 pub answer-line-spec : {M : Type 1} → statement M
 answer-line-spec =

@@ -6,7 +6,7 @@ use native.Mathlib.Omega.{arith}
 use lib.ListN.{length, take}
 use Rattle.tape_answer.specs.Line.{mostAnswer}
 use Rattle.tape_answer.specs.Feeding.{mostKept}
-use Rattle.tape_answer.specs.TapeLaws.{taken-full, taken-all, Leads, leads-on, leads-end}
+use Rattle.tape_answer.specs.TapeLaws.{taken-full, taken-all, FeedsOn, leads-on, leads-end}
 use borrow.Author.Needs.{needs}
 use Rattle.tape_feed.proofs.feed.Statement.{statement}
 use Rattle.tape_feed.proofs.feed.Tie as tie
@@ -18,7 +18,7 @@ Inv-loop piece from kept₀ n out₀ m at₀ held₀ written₀ kept out at held
     × (length kept ≡ mostKept)
     × (length out ≡ length out₀)
     × (written ≤ length out)
-    × Leads piece from (take n kept₀) out₀ m at (take held kept) out written
+    × FeedsOn piece from (take n kept₀) out₀ m at (take held kept) out written
     × ((from < at) ⊎ (written + mostAnswer ≤ length out))
     × (from ≤ at)
 

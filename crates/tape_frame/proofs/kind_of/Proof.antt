@@ -1,5 +1,5 @@
 -- The two tests are the definition's. Assumes nothing.
-use Rattle.tape_frame.specs.Frame.{kindOf}
+use Rattle.tape_frame.specs.Frame.{tableKind}
 use borrow.Author.Needs.{needs}
 use Rattle.tape_frame.proofs.kind_of.Statement.{statement}
 use Rattle.tape_frame.proofs.kind_of.Tie as tie
@@ -8,18 +8,18 @@ opens-requires : tie.Need-opens-requires
 opens-requires c κs = search needs
 
 returns : tie.Need-returns
-unfolding kindOf
+unfolding tableKind
 returns c = rw (← c .before .opens .ensures, c .if1 .taken)
 
 opens-requires-2 : tie.Need-opens-requires-2
 opens-requires-2 c κs = search needs
 
 returns-2 : tie.Need-returns-2
-unfolding kindOf
+unfolding tableKind
 returns-2 c = rw (← c .before .before .before .before .opens .ensures, c .before .before .before .if1 .left, ← c .before .opens2 .ensures, c .if2 .taken)
 
 returns-3 : tie.Need-returns-3
-unfolding kindOf
+unfolding tableKind
 returns-3 c = rw (← c .before .before .before .before .opens .ensures, c .before .before .before .if1 .left, ← c .before .opens2 .ensures, c .if2 .left)
 
 pub kind-of-spec : {M : Type 1} → statement M

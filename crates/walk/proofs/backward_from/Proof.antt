@@ -13,7 +13,7 @@ use Rattle.verdict.specs.declared.Verdict.the-variants.{Skip}
 use Rattle.verdict.specs.Verdict.{valueOf, skipYes, restOf, judgeAt}
 use Rattle.verdict.specs.Laws.{judged-yes, judged-rest}
 use Rattle.walk.specs.declared.Walked.the-variants.{Stopped, RanOut}
-use Rattle.walk.specs.Walk.{afterBack, walkBack}
+use Rattle.walk.specs.Walk.{onVerdictBack, walkBack}
 use Rattle.walk.specs.Steps.{back-on-by, back-end}
 use Rattle.walk.proofs.backward_from.Statement.{statement}
 use Rattle.walk.proofs.backward_from.Tie as tie
@@ -64,7 +64,7 @@ module _ (c : tie.After-is-skip-yes Inv-loop μ-loop) where
 
   -- a turn whose verdict is r
   turn : (r : Verdict) → judge tested ≡ r
-      → walkBack judge (c .before .before .before .before .before .before .before .before .args .place) ≡ afterBack r tested (walkBack judge tested)
+      → walkBack judge (c .before .before .before .before .before .before .before .before .args .place) ≡ onVerdictBack r tested (walkBack judge tested)
   turn r e =
       let l = c .before .before .loop in
       l .inv .1 ∙ back-on-by judge (l .p + 1) tested (omega arith) r e

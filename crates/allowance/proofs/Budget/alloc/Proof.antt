@@ -2,7 +2,7 @@
 use mathlib.Core.Path.{_≡_, sym, ap, _∙_}
 use Prim.Native.Nat.{ℕ, _*_}
 use borrow.Author.Tests.{ltb-true, ltb-false}
-use Rattle.allowance.specs.Allowance.{opened, taken}
+use Rattle.allowance.specs.Allowance.{budgetWith, chargeTaken}
 use Rattle.allowance.specs.Laws.{allocated-within, allocated-past}
 use borrow.Author.Needs.{needs}
 use Rattle.allowance.proofs.Budget.alloc.Statement.{statement}
@@ -21,7 +21,7 @@ less-requires c κs = let a = c .before .before .args in
 
 returns-2 : tie.Need-returns-2
 returns-2 c = let a = c .before .before .before .args in
-    ap (λ (n : ℕ). taken (opened (a .self .work) n)) (c .less .ensures .0)
+    ap (λ (n : ℕ). chargeTaken (budgetWith (a .self .work) n)) (c .less .ensures .0)
     ∙ sym (allocated-within (a .self) (a .count) (a .size) (ltb-false (a .self .bytes) (a .count * a .size) (sym (c .before .before .exceeds .ensures) ∙ c .before .if1 .left)) (c .less .ensures .1))
 
 pub alloc-spec : {M : Type 1} → statement M

@@ -5,7 +5,7 @@ use Rattle.allowance.specs.declared.Budget.{Budget}
 use Rattle.allowance.specs.declared.Charged.{Charged}
 use Rattle.allowance.specs.Allowance.{worked, allocated}
 use Rattle.desk_numbers.specs.Numbers.{wasTaken}
-use Rattle.desk.specs.Allowances.{budgetOf, leftOf}
+use Rattle.desk.specs.Allowances.{budgetOf, budgetWords}
 use borrow.Author.Needs.{needs}
 use Rattle.desk.proofs.allowances.cb_budget_alloc.Statement.{statement}
 use Rattle.desk.proofs.allowances.cb_budget_alloc.Tie as tie
@@ -29,7 +29,7 @@ returns : tie.Need-returns
 returns c = let e : c .before .before .before .alloc .result ≡ allocated (c .before .before .before .before .before .before .before .args .count) (c .before .before .before .before .before .before .before .args .size) (budgetOf (now (c .before .before .before .before .before .before .before .args .left))) =
     c .before .before .before .alloc .ensures ∙ ap (allocated (c .before .before .before .before .before .before .before .args .count) (c .before .before .before .before .before .before .before .args .size)) (c .before .before .before .before .new .ensures) in (
       c .taken .ensures ∙ ap (λ (r : Charged). wasTaken (r .charge)) e,
-      ap (λ (r : Charged). leftOf (r .left)) e,
+      ap (λ (r : Charged). budgetWords (r .left)) e,
     )
 
 pub cb-budget-alloc-spec : {M : Type 1} → statement M

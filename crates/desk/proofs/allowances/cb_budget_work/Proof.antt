@@ -5,7 +5,7 @@ use Rattle.allowance.specs.declared.Budget.{Budget}
 use Rattle.allowance.specs.declared.Charged.{Charged}
 use Rattle.allowance.specs.Allowance.{worked, allocated}
 use Rattle.desk_numbers.specs.Numbers.{wasTaken}
-use Rattle.desk.specs.Allowances.{budgetOf, leftOf}
+use Rattle.desk.specs.Allowances.{budgetOf, budgetWords}
 use borrow.Author.Needs.{needs}
 use Rattle.desk.proofs.allowances.cb_budget_work.Statement.{statement}
 use Rattle.desk.proofs.allowances.cb_budget_work.Tie as tie
@@ -29,7 +29,7 @@ returns : tie.Need-returns
 returns c = let e : c .before .before .before .work .result ≡ worked (c .before .before .before .before .before .before .before .args .visits) (budgetOf (now (c .before .before .before .before .before .before .before .args .left))) =
     c .before .before .before .work .ensures ∙ ap (worked (c .before .before .before .before .before .before .before .args .visits)) (c .before .before .before .before .new .ensures) in (
       c .taken .ensures ∙ ap (λ (r : Charged). wasTaken (r .charge)) e,
-      ap (λ (r : Charged). leftOf (r .left)) e,
+      ap (λ (r : Charged). budgetWords (r .left)) e,
     )
 
 pub cb-budget-work-spec : {M : Type 1} → statement M

@@ -5,13 +5,13 @@ use Prim.Native.Nat.{ℕ, _+_, _-_, _≤_}
 use native.Mathlib.Omega.{arith}
 use lib.ListN.{length, getD, drop}
 use Rattle.digest.specs.Digest.{Bits, bitsOf, added, addedAll}
-use Rattle.digest.specs.Laws.{Same, addedAll-on, addedAll-end, addedAll-same}
+use Rattle.digest.specs.Laws.{SameBits, addedAll-on, addedAll-end, addedAll-same}
 use borrow.Author.Needs.{needs}
 use Rattle.digest.proofs.SetDigest.add_array.Statement.{statement}
 use Rattle.digest.proofs.SetDigest.add_array.Tie as tie
 
 abbrev Inv-loop : tie.InvT-loop
-Inv-loop array digest₀ i₀ digest i = (i ≤ length array) × Same (addedAll (drop i array) (bitsOf digest)) (addedAll array (bitsOf digest₀))
+Inv-loop array digest₀ i₀ digest i = (i ≤ length array) × SameBits (addedAll (drop i array) (bitsOf digest)) (addedAll array (bitsOf digest₀))
 
 abbrev μ-loop : tie.MeasureT-loop
 μ-loop array digest₀ i₀ digest i = length array - i

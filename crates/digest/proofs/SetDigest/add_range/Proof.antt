@@ -6,7 +6,7 @@ use native.Mathlib.Omega.{arith}
 use lib.ListN.{length, getD, length-set}
 use Rattle.bits.specs.Bits.{bit, every}
 use Rattle.bits.specs.Laws.{or-bit, every-at}
-use Rattle.digest.specs.Digest.{Bits, bitsOf, wide, ranged, full}
+use Rattle.digest.specs.Digest.{Bits, bitsOf, wide, ranged, everyBit}
 use Rattle.digest.proofs.Masks.{Made, made-more, noted-more, noted-none}
 use borrow.Author.Needs.{needs}
 use Rattle.digest.proofs.SetDigest.add_range.Statement.{statement}
@@ -27,7 +27,7 @@ is-full-requires c κs = search needs
 returns : tie.Need-returns Inv-loop μ-loop
 unfolding ranged
 returns c = let d = c .before .before .args in
-    let e : full (bitsOf (d .self)) ≡ true = sym (c .before .is-full .ensures) ∙ c .if1 .taken in (
+    let e : everyBit (bitsOf (d .self)) ≡ true = sym (c .before .is-full .ensures) ∙ c .if1 .taken in (
       λ i k h l.
           kept (bitsOf (d .self) i k) _ (every-at (bitsOf (d .self) i) 64 k (every-at (λ j. every 64 (bitsOf (d .self) j)) 3 i e h) l),
       rw e,
@@ -74,7 +74,7 @@ loop-again c = let l = c .before .before .before .loop in let d = c .before .bef
 
 returns-2 : tie.Need-returns-2 Inv-loop μ-loop
 returns-2 c = let d = c .before .before .before .before .before .args in let l = c .before .loop in
-    let e : full (bitsOf (d .self)) ≡ false = sym (c .before .before .before .before .is-full .ensures) ∙ c .before .before .before .if1 .left in
+    let e : everyBit (bitsOf (d .self)) ≡ false = sym (c .before .before .before .before .is-full .ensures) ∙ c .before .before .before .if1 .left in
     let three : l .i ≡ 3 = omega arith in (
       λ i k h m. l .inv .3 i k (omega arith) m,
       l .inv .2 ∙ rw (e, three),
