@@ -1,8 +1,8 @@
-//! Checks that include/conchibaru.h and bindings/rust/src say the same as crates/desk/src and crates/desk_numbers/src: every call with each
+//! Checks that include/conchibaru.h and bindings/rust/src say the same as crates/desk/src and the rooms whose enums have numbers: every call with each
 //! argument's name and type in order, every struct with its fields, every number that has a name. Each of the three is read into one
 //! normal form.
 //!
-//!     drift HEADER DESK-FOLDER NUMBERS-FOLDER CRATE-FOLDER
+//!     drift HEADER CRATE-FOLDER DESK-FOLDER [FOLDER-OF-A-ROOM]..
 //!
 //! It also tries itself: each word of a declaration, in each of the three, is changed alone, and the change must be noticed.
 use std::collections::{BTreeMap, BTreeSet};
@@ -482,13 +482,23 @@ fn folder(path: &str, ending: &str) -> String {
     files.iter().filter(|f| f.extension().is_some_and(|e| e == ending)).map(|f| file(&f.to_string_lossy()) + "\n").collect()
 }
 
+/// Of a room's functions those that give an enum its number (`refusal_number` and the like), and `test_of`, which goes the other way.
+fn numbered(text: &str) -> String {
+    let is_one = |function: &&str| {
+        let name = function.rsplit("fn ").next().and_then(|after| after.split('(').next()).unwrap_or("");
+        name.ends_with("_number") || name == "test_of"
+    };
+    text.split_inclusive("\n}\n").filter(is_one).collect()
+}
+
 fn main() {
     let arguments: Vec<String> = std::env::args().skip(1).collect();
-    let [header, desk, numbers, krate] = &arguments[..] else {
-        panic!("usage: drift HEADER DESK-FOLDER NUMBERS-FOLDER CRATE-FOLDER")
+    let [header, krate, desk, rooms @ ..] = &arguments[..] else {
+        panic!("usage: drift HEADER CRATE-FOLDER DESK-FOLDER [FOLDER-OF-A-ROOM]..")
     };
     let header = ("conchibaru.h", words(&without_directives(&file(header))), read_header as Read);
-    let desk = ("crates/desk", words(&(folder(desk, "rt") + &folder(numbers, "rt"))), read_desk as Read);
+    let numbers: String = rooms.iter().map(|room| numbered(&folder(room, "rt"))).collect();
+    let desk = ("crates/desk", words(&(folder(desk, "rt") + &numbers)), read_desk as Read);
     let krate = ("bindings/rust", words(&folder(krate, "rs")), read_crate as Read);
     let mut read = Vec::new();
     for (name, words, reader) in [&header, &desk, &krate] {

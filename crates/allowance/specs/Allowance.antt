@@ -1,5 +1,5 @@
 -- Allowances: two numbers that only fall, one for work and one for bytes. (01, port order 2; budget.rs.)
-use mathlib.Core.Bool.{Bool, cond}
+use mathlib.Core.Bool.{Bool, true, false, cond}
 use Prim.Native.Nat.{ℕ, _-_, _*_, _^_, min, max}
 use lib.Dec.{ltb, leb}
 use Rattle.allowance.specs.declared.Budget.{Budget}
@@ -17,6 +17,10 @@ opening bytes = max 4194304 (min 134217728 (min most (bytes * 256)))
 
 abbrev pub budgetWith : ℕ → ℕ → Budget
 budgetWith work bytes = record { work = work; bytes = bytes }
+
+abbrev pub wasTaken : Charge → Bool
+wasTaken Taken = true
+wasTaken Exhausted = false
 
 -- what is answered, beside what is left
 abbrev pub chargeTaken : Budget → Charged

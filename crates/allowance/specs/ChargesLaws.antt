@@ -9,7 +9,7 @@ use native.Mathlib.Omega.{arith}
 use Rattle.allowance.specs.declared.Budget.{Budget}
 use Rattle.allowance.specs.declared.Charge.{Charge}
 use Rattle.allowance.specs.declared.Charge.the-variants.{Taken, Exhausted}
-use Rattle.allowance.specs.Allowance.{most, opening, budgetWith}
+use Rattle.allowance.specs.Allowance.{wasTaken, most, opening, budgetWith}
 use Rattle.allowance.specs.Laws.{Balances, worked-kept, allocated-kept}
 use Rattle.allowance.specs.Charges.{Charging, Visits, Things, chargedFor, workAsked, bytesAsked, answersTo, leftAfter, sumTaken}
 
@@ -69,12 +69,8 @@ opening-adds-up table charges = adds-up charges (budgetWith (opening table) (ope
 
 -- ---- Exhausted changes nothing
 
-abbrev isTaken : Charge → Bool
-isTaken Taken = true
-isTaken Exhausted = false
-
 by-exhausted : (answer : Charge) (a : Charging) (b left : Budget) → Keeps answer a b left → answer ≡ Exhausted → left ≡ b
-by-exhausted Taken a b left k e = absurd (true≢false (ap isTaken e))
+by-exhausted Taken a b left k e = absurd (true≢false (ap wasTaken e))
 by-exhausted Exhausted a b left k e = k
 
 pub exhausted-same : (a : Charging) (b : Budget) → b .bytes ≤ most → chargedFor a b .charge ≡ Exhausted → chargedFor a b .left ≡ b

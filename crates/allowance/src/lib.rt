@@ -2,7 +2,7 @@
 ghost use mathlib.Core.Path.{_≡_};
 ghost use Prim.Native.Nat.{_-_, _*_, _≤_};
 ghost use lib.Dec.{ltb};
-ghost use Rattle.allowance.specs.Allowance.{most, opening, budgetWith, worked, allocated};
+ghost use Rattle.allowance.specs.Allowance.{most, opening, budgetWith, wasTaken, chargeExhausted, worked, allocated};
 
 pub struct Budget {
     pub work: u64,
@@ -42,10 +42,7 @@ impl Budget {
         ensures { λ r. ⌜ r ≡ worked visits self ⌝ }
     {
         if self.work < visits {
-            return Charged {
-                charge: Charge::Exhausted,
-                left: self,
-            };
+            return exhausted(self);
         }
         Charged {
             charge: Charge::Taken,
@@ -61,10 +58,7 @@ impl Budget {
         ensures { λ r. ⌜ r ≡ allocated count size self ⌝ }
     {
         if exceeds(count, size, self.bytes) {
-            return Charged {
-                charge: Charge::Exhausted,
-                left: self,
-            };
+            return exhausted(self);
         }
         Charged {
             charge: Charge::Taken,
@@ -73,6 +67,16 @@ impl Budget {
                 bytes: less(self.bytes, count, size),
             },
         }
+    }
+}
+
+// Exhausted takes nothing.
+fn exhausted(left: Budget) -> Charged
+    ensures { λ r. ⌜ r ≡ chargeExhausted left ⌝ }
+{
+    Charged {
+        charge: Charge::Exhausted,
+        left,
     }
 }
 
@@ -105,4 +109,14 @@ fn less(left: u64, count: u64, size: u64) -> u64
     ensures { λ r. ⌜ (r ≡ left - count * size) × (left ≤ most) ⌝ }
 {
     left - count * size
+}
+
+// The charge was taken, and not Exhausted.
+pub fn is_taken(charge: Charge) -> bool
+    ensures { λ r. ⌜ r ≡ wasTaken charge ⌝ }
+{
+    match charge {
+        Charge::Taken => true,
+        Charge::Exhausted => false,
+    }
 }

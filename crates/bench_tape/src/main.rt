@@ -1,5 +1,5 @@
 // The bench tape's program: frames on standard input, a line each; answers on standard output. Both go in large pieces, and what
-// is answered in a piece is written before the next is read. All that matters is in the library `tape_answer`.
+// is answered in a piece is written before the next is read. What a line is answered is the library's, `tape_feed`.
 use libc::STDIN_FILENO;
 use libc::STDOUT_FILENO;
 use tape_answer::Taken;

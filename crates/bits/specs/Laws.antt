@@ -5,6 +5,7 @@ use mathlib.Core.Logic.{⊎-elim}
 use Prim.Native.Nat.{ℕ, zero, suc, _+_, _-_, _*_, _/_, _%_, _^_, min, max, _≤_, _<_}
 use native.Mathlib.Omega.{arith}
 use native.Mathlib.Nat.{eq-or-lt-of-le, lt-of-lt-of-le, le-of-lt, le-refl, div-eq-of-lt, max-le, pow-suc, one-mul, mul-assoc}
+use native.Mathlib.Numerals.{add-one}
 use lib.Dec.{eqb, ltb, leb}
 use lib.Bits.{bitOr, bitAnd, or-shr, or-step, and-shr, and-step}
 use lib.Pow.{pow-pos, pow-lt, pow-add, shl-shr, shr-shr, shl-exact, high, ones-lt, ones-split, high-ones}
@@ -39,6 +40,13 @@ pub neither-right : (a b : Bool) → (a || b) ≡ false → b ≡ false
 neither-right true b e = absurd (true≢false e)
 neither-right false b e = e
 
+pub or-mono : (a b c d : Bool) → (a ≡ true → c ≡ true) → (b ≡ true → d ≡ true) → (a || b) ≡ true → (c || d) ≡ true
+or-mono true b c d f g e = or-left c d (f refl)
+or-mono false b c d f g e = or-right c d (g e)
+
+pub and-mono : (a b c d : Bool) → (a ≡ true → c ≡ true) → (b ≡ true → d ≡ true) → (a && b) ≡ true → (c && d) ≡ true
+and-mono a b c d f g e = and-both c d (f (and-left a b e)) (g (and-right a b e))
+
 -- ---- every and some
 
 module _ (p : ℕ → Bool) where
@@ -63,6 +71,19 @@ module _ (p : ℕ → Bool) where
   -- one that fails is enough
   pub every-not : (n k : ℕ) → k < n → p k ≡ false → every n p ≡ false
   every-not n k h f = every-by n k (every n p) refl h f
+
+  -- a test of each number in turn: none yet, one more that passes, all of them
+  pub every-none : every 0 p ≡ true
+  unfolding every
+  every-none = refl
+
+  pub every-more : (i : ℕ) (b : Bool) → every i p ≡ true → b ≡ p i → not b ≡ false → every (i + 1) p ≡ true
+  unfolding every
+  every-more i true e f g = rw (add-one, e) (sym f)
+  every-more i false e f g = absurd (true≢false g)
+
+  pub every-done : (i n : ℕ) → i ≡ n → every i p ≡ true → true ≡ every n p
+  every-done i n e f = sym f ∙ ap (λ (m : ℕ). every m p) e
 
   pub some-at : (n k : ℕ) → k < n → p k ≡ true → some n p ≡ true
   unfolding some

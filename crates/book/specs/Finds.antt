@@ -128,19 +128,19 @@ few-lookups n ws ls e = few-by n ws ls e (ltb n (length ls)) refl
 -- ---- the book
 
 -- a book that reads isn't too long
-pub record Kept (ws : List ℕ) (ls : List Lookup) : Type 0 where
+pub record BookReads (ws : List ℕ) (ls : List Lookup) : Type 0 where
   pub short : length ws ≤ mostWords
   pub reads : readLookups mostLookups ws ≡ Reads ls
 
-kept-by : (ws : List ℕ) (ls : List Lookup) (t : Bool) → leb (length ws) mostWords ≡ t → readBook ws ≡ Reads ls → Kept ws ls
+kept-by : (ws : List ℕ) (ls : List Lookup) (t : Bool) → leb (length ws) mostWords ≡ t → readBook ws ≡ Reads ls → BookReads ws ls
 unfolding readBook
 kept-by ws ls true e r = record { short = leb-true (length ws) mostWords e; reads = rw e at r }
 kept-by ws ls false e r = absurd (no-read ls (rw e at r))
 
-pub kept : (ws : List ℕ) (ls : List Lookup) → readBook ws ≡ Reads ls → Kept ws ls
-kept ws ls r = kept-by ws ls (leb (length ws) mostWords) refl r
+pub book-reads : (ws : List ℕ) (ls : List Lookup) → readBook ws ≡ Reads ls → BookReads ws ls
+book-reads ws ls r = kept-by ws ls (leb (length ws) mostWords) refl r
 
-found-by : (ws : List ℕ) (ls : List Lookup) (k : ℕ) (t : Bool) → ltb k (length ls) ≡ t → Kept ws ls
+found-by : (ws : List ℕ) (ls : List Lookup) (k : ℕ) (t : Bool) → ltb k (length ls) ≡ t → BookReads ws ls
     → meant ws (foundAt ws (indexed ws (Reads ls)) k) ≡ lookupAt k ls
 unfolding foundIn
 found-by ws ls k true e b =
@@ -149,10 +149,10 @@ found-by ws ls k true e b =
     rw (e, lt-ltb k mostLookups (omega arith), slot-is (length ls) ws k f h) (start-is ws mostLookups ls (b .reads) k h ∙ sym (lookup-is k ls h))
 found-by ws ls k false e b = rw e (sym (lookup-none k ls (ltb-false k (length ls) e)))
 
--- the entry that `find` answers by the book's index is lookup k, and missing where the book has none
+-- the entry that `find_in` answers by the book's index is lookup k, and missing where the book has none
 pub found-is : (ws : List ℕ) (ls : List Lookup) (k : ℕ) → readBook ws ≡ Reads ls → meant ws (foundAt ws (indexOf ws) k) ≡ lookupAt k ls
 unfolding indexOf
-found-is ws ls k e = rw e (found-by ws ls k (ltb k (length ls)) refl (kept ws ls e))
+found-is ws ls k e = rw e (found-by ws ls k (ltb k (length ls)) refl (book-reads ws ls e))
 
 inside-by : (ws : List ℕ) (t b : Bool) (at : ℕ) → EntryInside (length ws) (cond t (cond b (entryAt ws at) Entry.Missing) Entry.Missing)
 inside-by ws true true at = entry-inside ws at

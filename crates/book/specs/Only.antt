@@ -13,7 +13,7 @@ use Rattle.book.specs.Book.{mostLookups, mostIds, mostInput, mostSide, m
 use Rattle.book.specs.Encode.{kindOf, propsOf, numbered, contentOf, encode, encodeAll, LookupWithin, AllWithin, Narrow, Legal}
 use Rattle.book.specs.Records.{records-length, pairs-back}
 use Rattle.book.specs.Starts.{no-read}
-use Rattle.book.specs.Finds.{few-lookups, kept}
+use Rattle.book.specs.Finds.{few-lookups, book-reads}
 use Rattle.book.specs.Written.{reads-back}
 
 -- ---- entries after their number
@@ -250,7 +250,7 @@ lists (suc n) (x ∷ ws) ls w e = lists-first n (λ v ks. lists n v ks) (x ∷ w
 -- a book that reads is the words of its lookups, which keep the limits
 pub reads-only : (ws : List ℕ) (ls : List Lookup) → Narrow ws → readBook ws ≡ Reads ls → (ws ≡ encodeAll ls) × Legal ls
 reads-only ws ls w e =
-    let k = kept ws ls e in
+    let k = book-reads ws ls e in
     let t = lists mostLookups ws ls w (k .reads) in
     (t .are, record { each = t .within; few = few-lookups mostLookups ws ls (k .reads); short = rw (t .are) at (k .short) })
 

@@ -3,16 +3,14 @@ use Prim.Native.Nat.{ℕ, zero, suc, _+_, _-_, _*_}
 use mathlib.Core.Bool.{Bool, true, false, cond}
 use mathlib.Core.List.{List, _++_}
 use lib.Dec.{eqb, leb, ltb}
-use lib.ListN.{length, getD, take, drop, set, replicate}
+use lib.ListN.{length, getD, take, drop, set}
+use Rattle.bits.specs.Bits.{zeros}
 use Rattle.book.specs.declared.Part.{Part}
 use Rattle.book.specs.declared.Counted.{Counted}
 use Rattle.book.specs.declared.ChainParts.{ChainParts}
 use Rattle.book.specs.declared.Entry.{Entry}
 use Rattle.book.specs.declared.Index.{Index}
 use Rattle.book.specs.Book.{mostLookups, mostIds, mostInput, mostSide, mostRecords, Reading, Reads, Unreadable, Found, Is, None, Chain, Kind1, Kind2, Kind3, recordsOf, readBook}
-
-abbrev pub zeros : ℕ → List ℕ
-zeros n = replicate n 0
 
 -- the words of a part
 abbrev pub partOf : List ℕ → Part → List ℕ

@@ -10,7 +10,8 @@ use lib.ListN.{length, getD, drop, set, length-append, length-drop, drop-of-leng
 use Rattle.book.specs.declared.Entry.{Entry}
 use Rattle.book.specs.declared.Index.{Index}
 use Rattle.book.specs.Book.{mostWords, mostLookups, Lookup, Kind1, Kind2, Kind3, Found, Is, None, First, followed, firstOf, Reading, Reads, Unreadable, readFirst, readOn, readLookups, readBook, isRead}
-use Rattle.book.specs.Places.{zeros, partOf, chainOf, meant, entryAt, missing, sizeAt, startOf, startSlots, noIndex, indexed, indexOf}
+use Rattle.bits.specs.Bits.{zeros}
+use Rattle.book.specs.Places.{partOf, chainOf, meant, entryAt, missing, sizeAt, startOf, startSlots, noIndex, indexed, indexOf}
 use Rattle.book.specs.Readings.{first-at, entry-fits}
 
 -- a book that doesn't read has no lookups

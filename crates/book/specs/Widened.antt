@@ -8,7 +8,8 @@ use native.Mathlib.Omega.{arith}
 use lib.ListN.{length, getD, take, drop, set, length-replicate, replicate-append-replicate}
 use lib.Seq.{take-all, drop-at, take-append-seam, paste, paste-suc}
 use Rattle.book.specs.Book.{mostSide}
-use Rattle.book.specs.Places.{zeros, widened}
+use Rattle.bits.specs.Bits.{zeros}
+use Rattle.book.specs.Places.{widened}
 
 -- a turn
 pub widen-more : (m : ℕ) (values : List ℕ) (k : ℕ) → k < m → k < length values

@@ -11,7 +11,8 @@ use Rattle.matching.specs.declared.InputMatch.{InputMatch}
 use Rattle.matching.specs.Answers.{slotted}
 use Rattle.run.specs.Run.{Stage}
 use Rattle.run_calls.specs.declared.Checked.{Checked}
-use Rattle.run_calls.specs.Calls.{Handed, checkedAll, runSays, endingNumber, runRefusalNumber}
+use Rattle.run.specs.Numbers.{endingNumber, runRefusalNumber}
+use Rattle.run_calls.specs.Calls.{Handed, checkedAll, runSays}
 use Rattle.cards.specs.Card.{Card}
 use Rattle.cards.specs.Signs.{letter}
 

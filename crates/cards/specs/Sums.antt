@@ -2,7 +2,7 @@
 use mathlib.Core.Bool.{Bool, cond}
 use mathlib.Core.List.{List, [], _∷_}
 use Prim.Native.Nat.{ℕ, zero, suc}
-use Rattle.digest.specs.Digest.{Bits, noBits, added, ranged, mayHave}
+use Rattle.digest.specs.Digest.{Bits, noneSet, added, ranged, mayHave}
 use Rattle.allowance.specs.Allowance.{opening}
 use Rattle.cards.specs.Card.{Card}
 
@@ -24,14 +24,14 @@ masksOf f more = bitsBelow 64 (f 0) [] ∷ bitsBelow 64 (f 1) [] ∷ bitsBelow 6
 -- K7: glyph 4,660 sets bits 35, 52, 8; 8,756 is then also admitted
 abbrev pub k7 : Card
 k7 = record {
-  given = let d = added 4660 noBits in masksOf d (numbers (yes (mayHave d 8756) ∷ []));
+  given = let d = added 4660 noneSet in masksOf d (numbers (yes (mayHave d 8756) ∷ []));
   wanted = (35 ∷ []) ∷ (52 ∷ []) ∷ (8 ∷ []) ∷ (1 ∷ []) ∷ [];
 }
 
 -- K8: range 62 to 65 sets 3, 4; 62, 63, 0, 1; 0, 1
 abbrev pub k8 : Card
 k8 = record {
-  given = masksOf (ranged 62 65 noBits) [];
+  given = masksOf (ranged 62 65 noneSet) [];
   wanted = (3 ∷ 4 ∷ []) ∷ (0 ∷ 1 ∷ 62 ∷ 63 ∷ []) ∷ (0 ∷ 1 ∷ []) ∷ [];
 }
 

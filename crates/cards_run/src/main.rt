@@ -1,7 +1,6 @@
 // The bench cards that are run and not shown from the definitions. Each line is a card, what was asked, and the answer's number and values.
 use matching::InputAnswer;
 use matching::InputMatch;
-use matching::Refusal;
 use matching::Terms;
 use verdict::Settings;
 use verdict::Table;
@@ -62,7 +61,7 @@ fn say(card: &[u8], m: InputMatch) {
     let answer = m.answer;
     match answer {
         InputAnswer::Matched { end, total } => matched(end, total, m.count),
-        InputAnswer::Refused(why) => refused(why),
+        InputAnswer::Refused(why) => number(b" ", matching::refusal_number(why) as u64),
         InputAnswer::Lost(extent) => number(b" 4 extent ", extent as u64),
         InputAnswer::Ligature => number(b" ", 5),
     }
@@ -73,15 +72,6 @@ fn matched(end: usize, total: u16, count: usize) {
     number(b" 0 end ", end as u64);
     number(b" total ", total as u64);
     number(b" positions ", count as u64);
-}
-
-fn refused(why: Refusal) {
-    match why {
-        Refusal::Shape => number(b" ", 1),
-        Refusal::Cursor => number(b" ", 2),
-        Refusal::Values => number(b" ", 3),
-        Refusal::Start => number(b" ", 6),
-    }
 }
 
 fn number(word: &[u8], n: u64) {

@@ -2,7 +2,8 @@
 use Rattle.matching.specs.declared.InputMatch.{InputMatch}
 use Rattle.run.specs.declared.Given.{Given}
 use Rattle.run_calls.specs.declared.RunAnswer.{RunAnswer}
-use Rattle.desk_numbers.specs.Numbers.{answerFrom, runNumber}
+use Rattle.matching.specs.Answers.{answerFrom}
+use Rattle.run.specs.Numbers.{runNumber}
 use Rattle.desk.specs.declared.matches.Matched.{Matched}
 use Rattle.desk.specs.declared.nestings.Switches.{Switches}
 use Rattle.desk.specs.declared.nestings.Ran.{Ran}

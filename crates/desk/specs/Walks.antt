@@ -9,7 +9,7 @@ use Rattle.verdict.specs.Matcher.{matcherOf}
 use Rattle.walk.specs.Calls.{walkReply}
 use Rattle.walk.specs.declared.Walked.{Walked}
 use Rattle.walk.specs.declared.Walked.the-variants.{Found, Stopped, RanOut, Refused}
-use Rattle.desk_numbers.specs.Numbers.{tableOf, testOf}
+use Rattle.verdict.specs.Numbers.{tableOf, testOf}
 use Rattle.desk.specs.declared.walks.Lookup.{Lookup}
 use Rattle.desk.specs.declared.walks.Sought.{Sought}
 use Rattle.desk.specs.declared.walks.Said.{Said}

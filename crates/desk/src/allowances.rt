@@ -2,7 +2,7 @@
 use allowance::Budget;
 ghost use mathlib.Core.Path.{_≡_};
 ghost use Rattle.allowance.specs.Allowance.{opening, budgetWith, worked, allocated};
-ghost use Rattle.desk_numbers.specs.Numbers.{wasTaken};
+ghost use Rattle.allowance.specs.Allowance.{wasTaken};
 ghost use Rattle.desk.specs.Allowances.{budgetOf, budgetWords};
 
 #[no_mangle]
@@ -29,7 +29,7 @@ pub extern "C" fn cb_budget_work(left: &mut [u64; 2], visits: u64) -> bool
     let b = c.left;
     *left = [b.work, b.bytes];
     let charge = c.charge;
-    desk_numbers::allowances::taken(charge)
+    allowance::is_taken(charge)
 }
 
 #[no_mangle]
@@ -40,5 +40,5 @@ pub extern "C" fn cb_budget_alloc(left: &mut [u64; 2], count: u64, size: u64) ->
     let b = c.left;
     *left = [b.work, b.bytes];
     let charge = c.charge;
-    desk_numbers::allowances::taken(charge)
+    allowance::is_taken(charge)
 }

@@ -3,13 +3,13 @@ use digest::SetDigest;
 use rule_digest::RuleSetDigest;
 ghost use mathlib.Core.Path.{_≡_};
 ghost use mathlib.Core.Bool.{true, false};
-ghost use Rattle.digest.specs.Digest.{Says, bitsOf, noBits, allBits, united, added, addedAll, ranged, rangeYes, mayHave, mayIntersect};
+ghost use Rattle.digest.specs.Digest.{Says, bitsOf, noneSet, allSet, united, added, addedAll, ranged, rangeYes, mayHave, mayIntersect};
 ghost use Rattle.rule_digest.specs.Rule.{RuleSays, ruleBits, ruleAdded, ruleFull, ruleMayHave};
 ghost use Rattle.desk.specs.Digests.{digestOf, ruleOf};
 
 #[no_mangle]
 pub extern "C" fn cb_digest_new(masks: &mut [u64; 3])
-    ensures { λ _. ⌜ Says (digestOf (now (masks .exit))) noBits ⌝ }
+    ensures { λ _. ⌜ Says (digestOf (now (masks .exit))) noneSet ⌝ }
 {
     let d = SetDigest::new();
     let m = d.masks;
@@ -18,7 +18,7 @@ pub extern "C" fn cb_digest_new(masks: &mut [u64; 3])
 
 #[no_mangle]
 pub extern "C" fn cb_digest_full(masks: &mut [u64; 3])
-    ensures { λ _. ⌜ Says (digestOf (now (masks .exit))) allBits ⌝ }
+    ensures { λ _. ⌜ Says (digestOf (now (masks .exit))) allSet ⌝ }
 {
     let d = SetDigest::full();
     let m = d.masks;
@@ -27,7 +27,7 @@ pub extern "C" fn cb_digest_full(masks: &mut [u64; 3])
 
 #[no_mangle]
 pub extern "C" fn cb_digest_clear(masks: &mut [u64; 3])
-    ensures { λ _. ⌜ Says (digestOf (now (masks .exit))) noBits ⌝ }
+    ensures { λ _. ⌜ Says (digestOf (now (masks .exit))) noneSet ⌝ }
 {
     let m = *masks;
     let d = SetDigest { masks: m }.clear();

@@ -8,7 +8,7 @@ ghost use mathlib.Core.Path.{_≡_};
 ghost use mathlib.Core.List.{[]};
 ghost use Rattle.verdict.specs.Verdict.{valueBy};
 ghost use Rattle.matching_calls.specs.Calls.{inputOf, aheadOf, backOf};
-ghost use Rattle.desk_numbers.specs.Numbers.{testOf};
+ghost use Rattle.verdict.specs.Numbers.{testOf};
 ghost use Rattle.desk.specs.Matches.{termsFor, matchedWith, matchedOf, placedOf};
 
 // 0 with end, total, count and positions; 4 with the extent in `end`; or a refusal's number. Unused slots are 0.
@@ -50,7 +50,7 @@ pub extern "C" fn cb_match_input(
         idx,
         asked(lookup),
         sets,
-        desk_numbers::walks::test(test),
+        verdict::test_of(test),
         values,
     ))
 }
@@ -79,7 +79,7 @@ pub extern "C" fn cb_match_lookahead(
         start,
         asked(lookup),
         sets,
-        desk_numbers::walks::test(test),
+        verdict::test_of(test),
         values,
     ))
 }
@@ -106,7 +106,7 @@ pub extern "C" fn cb_match_backtrack<'a>(
         idx,
         asked(lookup),
         sets,
-        desk_numbers::walks::test(test),
+        verdict::test_of(test),
         values,
     ))
 }
@@ -130,13 +130,7 @@ fn input_told(m: InputMatch) -> Matched
     let positions = m.positions;
     match answer {
         InputAnswer::Matched { end, total } => told(0, end, total, count, positions),
-        InputAnswer::Refused(why) => told(
-            desk_numbers::matches::refusal(why),
-            0,
-            0,
-            count,
-            positions,
-        ),
+        InputAnswer::Refused(why) => told(matching::refusal_number(why), 0, 0, count, positions),
         InputAnswer::Lost(extent) => told(4, extent, 0, count, positions),
         InputAnswer::Ligature => told(5, 0, 0, count, positions),
     }
@@ -160,7 +154,7 @@ fn context_told(c: ContextMatch) -> Placed
     match c {
         ContextMatch::Matched(place) => Placed { number: 0, place },
         ContextMatch::Refused(why) => Placed {
-            number: desk_numbers::matches::refusal(why),
+            number: matching::refusal_number(why),
             place: 0,
         },
         ContextMatch::Lost(extent) => Placed {

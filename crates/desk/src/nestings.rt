@@ -80,7 +80,7 @@ fn match_from(m: Matched) -> InputMatch
     ensures { λ r. ⌜ r ≡ matchFrom m ⌝ }
 {
     let positions = m.positions;
-    let answer = desk_numbers::nestings::success(m.number, m.end, m.total);
+    let answer = matching::answer_from(m.number, m.end, m.total);
     InputMatch {
         answer,
         count: m.count,
@@ -104,7 +104,7 @@ fn told(a: RunAnswer) -> Ran
 {
     let ending = a.ending;
     let positions = a.positions;
-    let number = desk_numbers::nestings::number_of(ending);
+    let number = run::number_of(ending);
     Ran {
         number,
         spent: a.spent,

@@ -156,7 +156,7 @@ fn matcher(l: Lookup, context: bool) -> Matcher
 pub fn settings(l: Lookup) -> Settings
     ensures { λ r. ⌜ r ≡ settingsFor l ⌝ }
 {
-    let t = desk_numbers::walks::table(l.gpos);
+    let t = verdict::table_of(l.gpos);
     Settings {
         table: t,
         zwnj: l.zwnj,
@@ -168,7 +168,7 @@ pub fn settings(l: Lookup) -> Settings
 fn sign(s: Sought) -> Sign
     ensures { λ r. ⌜ r ≡ signOf s ⌝ }
 {
-    let t = desk_numbers::walks::test(s.test);
+    let t = verdict::test_of(s.test);
     Sign {
         test: t,
         value: s.value,

@@ -1,8 +1,8 @@
 -- Masks that are made one after the other: the first i have their bits.
 -- Assumes nothing.
-use mathlib.Core.Bool.{Bool, true, false, not, _&&_, _||_, true≢false}
+use mathlib.Core.Bool.{Bool, true, false, not, _&&_, _||_}
 use mathlib.Core.List.{List}
-use mathlib.Core.Path.{_≡_, refl, sym, ap, _∙_}
+use mathlib.Core.Path.{_≡_, refl, ap, _∙_}
 use mathlib.Core.Logic.{⊎-elim}
 use Prim.Native.Nat.{ℕ, zero, suc, _+_, _≤_, _<_}
 use native.Mathlib.Omega.{arith}
@@ -11,7 +11,6 @@ use native.Mathlib.Numerals.{add-one}
 use lib.ListN.{length, getD, set}
 use lib.Seq.{getD-set-same, getD-set-other}
 use Rattle.bits.specs.Bits.{bit, every}
-use Rattle.bits.specs.Laws.{and-both}
 use Rattle.digest.specs.Digest.{Bits}
 
 -- the first n masks have these bits
@@ -26,22 +25,7 @@ made-more ms f i v l h g j k m o =
     (λ q. ap (bit k) (getD-set-other ms i j v 0 (λ z. omega arith)) ∙ h j k q o)
     (eq-or-lt-of-le le)
 
--- ---- a test of each number in turn
-
-pub every-none : (p : ℕ → Bool) → every 0 p ≡ true
-unfolding every
-every-none p = refl
-
--- one that passes, after all before it did
-pub every-more : (p : ℕ → Bool) (i : ℕ) (b : Bool) → every i p ≡ true → b ≡ p i → not b ≡ false → every (i + 1) p ≡ true
-unfolding every
-every-more p i true e f g = rw (add-one, e) (sym f)
-every-more p i false e f g = absurd (true≢false g)
-
-pub every-done : (p : ℕ → Bool) (i n : ℕ) → i ≡ n → every i p ≡ true → true ≡ every n p
-every-done p i n e f = sym f ∙ ap (λ (m : ℕ). every m p) e
-
--- whether one of the numbers so far fails the test
+-- ---- whether one of the numbers so far fails the test
 
 pub noted-none : (p : ℕ → Bool) → false ≡ not (every 0 p)
 unfolding every

@@ -28,11 +28,11 @@ shift i = getD (4 ∷ 0 ∷ 6 ∷ []) i 0
 abbrev pub place : ℕ → ℕ → ℕ
 place i g = g / 2 ^ shift i % 64
 
-abbrev pub noBits : Bits
-noBits i k = false
+abbrev pub noneSet : Bits
+noneSet i k = false
 
-abbrev pub allBits : Bits
-allBits i k = true
+abbrev pub allSet : Bits
+allSet i k = true
 
 abbrev pub united : Bits → Bits → Bits
 united f h i k = f i k || h i k

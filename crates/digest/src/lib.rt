@@ -4,7 +4,7 @@ ghost use mathlib.Core.Bool.{_||_};
 ghost use Prim.Native.Nat.{ℕ, _/_, _^_, _<_};
 ghost use Rattle.bits.specs.Bits.{bit};
 ghost use Rattle.mask.specs.Mask.{round};
-ghost use Rattle.digest.specs.Digest.{Says, bitsOf, shift, place, wide, noBits, allBits, united, added, addedAll, ranged, everyBit, rangeYes, mayHave, mayIntersect};
+ghost use Rattle.digest.specs.Digest.{Says, bitsOf, shift, place, wide, noneSet, allSet, united, added, addedAll, ranged, everyBit, rangeYes, mayHave, mayIntersect};
 
 const SHIFTS: [u32; 3] = [4, 0, 6];
 
@@ -20,13 +20,13 @@ pub struct Ranged {
 
 impl SetDigest {
     pub fn new() -> Self
-        ensures { λ r. ⌜ Says r noBits ⌝ }
+        ensures { λ r. ⌜ Says r noneSet ⌝ }
     {
         SetDigest { masks: [0; 3] }
     }
 
     pub fn full() -> Self
-        ensures { λ r. ⌜ Says r allBits ⌝ }
+        ensures { λ r. ⌜ Says r allSet ⌝ }
     {
         SetDigest {
             masks: [mask::ALL; 3],
@@ -34,7 +34,7 @@ impl SetDigest {
     }
 
     pub fn clear(self) -> Self
-        ensures { λ r. ⌜ Says r noBits ⌝ }
+        ensures { λ r. ⌜ Says r noneSet ⌝ }
     {
         SetDigest::new()
     }

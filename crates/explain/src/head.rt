@@ -93,13 +93,7 @@ pub(crate) fn tell(text: &mut [u8; ROOM], line: u64, h: Head) {
     let s = h.settings;
     opening(text, line, s);
     lookup(text, h.props);
-    sizes(
-        text,
-        h.mask,
-        h.done / glyph::WORDS,
-        h.coming / glyph::WORDS,
-        h.cursor,
-    );
+    sizes(text, h.mask, h.done, h.coming, h.cursor);
 }
 
 fn list(text: &mut [u8; ROOM], from: usize, values: &[u32]) -> usize {

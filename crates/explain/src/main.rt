@@ -38,7 +38,7 @@ pub struct Turns {
 
 // The base that was searched for.
 fn tell_base(line: &mut [u8; ROOM], searched: &[u32], id: u8, m: Matcher) {
-    match explain_glyph::find_base(searched, id) {
+    match ligature::find_base(searched, id) {
         Base::At(j) => {
             let sets = [0u16; 0];
             let g = glyph::read(searched, j);
@@ -162,16 +162,6 @@ fn tell_rows(
     }
 }
 
-// Under GPOS nothing is searched for a base.
-fn searched_words(table: Table, done: usize) -> usize
-    ensures { λ r. ⌜ r ≤ done ⌝ }
-{
-    match table {
-        Table::Gsub => done,
-        Table::Gpos => 0,
-    }
-}
-
 fn is_refused(answer: InputAnswer) -> bool {
     match answer {
         InputAnswer::Refused(_) => true,
@@ -191,8 +181,14 @@ fn tell_rows_of(
     let settings = lookup.settings;
     let table = settings.table;
     let m = verdict::matcher_of(settings, false, lookup.mask, lookup.props);
-    let n = searched_words(table, before.len());
-    tell_rows(line, &before[0..n], text, idx, m, values);
+    tell_rows(
+        line,
+        matching::searched_row(table, before),
+        text,
+        idx,
+        m,
+        values,
+    );
 }
 
 // The rows of a frame that isn't refused, and its answer.
@@ -251,8 +247,8 @@ fn tell_frame(
     head::values(line, &asked[0..n]);
     tell_match(
         line,
-        &before[0..d],
-        &text[0..c],
+        &before[0..glyph::WORDS * d],
+        &text[0..glyph::WORDS * c],
         h.cursor,
         lookup,
         &asked[0..n],

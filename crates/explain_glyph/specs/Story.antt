@@ -16,7 +16,7 @@ use Rattle.verdict.specs.declared.Verdict.the-variants.{Match, NotMatch, Skip}
 use Rattle.walk.specs.declared.Walked.{Walked}
 use Rattle.walk.specs.Walk.{onVerdict, walkFrom}
 use Rattle.walk.specs.Steps.{walk-on, walk-end}
-use Rattle.matching.specs.Take.{ahead, Outcome, taken, lost, unlike, having, followed, takes}
+use Rattle.matching.specs.Take.{ahead, Outcome, taken, lost, unlike, having, onWalked, takes}
 use Rattle.matching.specs.Matchers.{judge, joins, inputBy}
 use Rattle.explain_glyph.specs.declared.Turn.{Turn}
 use Rattle.explain_glyph.specs.declared.Turn.the-variants.{Passed, Taken, Stopped, Unlike}
@@ -39,8 +39,8 @@ module _ (v : ℕ → ℕ → Verdict) (ok : ℕ → Bool) (len : ℕ) where
   abbrev turn : ℕ → ℕ → Turn
   turn x p = turnBy (v x p) (ok p)
 
-  on-turn : (p : ℕ) (r : Verdict) (b : Bool) (same next : Outcome) (w : Walked) (rest : ℕ → Outcome) → ok p ≡ b → same ≡ followed ok w rest
-      → next ≡ rest p → onTurn (turnBy r b) p same next ≡ followed ok (onVerdict r p w) rest
+  on-turn : (p : ℕ) (r : Verdict) (b : Bool) (same next : Outcome) (w : Walked) (rest : ℕ → Outcome) → ok p ≡ b → same ≡ onWalked ok w rest
+      → next ≡ rest p → onTurn (turnBy r b) p same next ≡ onWalked ok (onVerdict r p w) rest
   on-turn p Match true same next w rest e s n = rw (e, n)
   on-turn p Match false same next w rest e s n = rw e
   on-turn p NotMatch b same next w rest e s n = refl
@@ -53,7 +53,7 @@ module _ (v : ℕ → ℕ → Verdict) (ok : ℕ → Bool) (len : ℕ) where
   story-takes (suc n) p (x ∷ xs) e =
       on-turn p (v x p) (ok p) (storyOf turn n (p + 1) (x ∷ xs)) (storyOf turn n (p + 1) xs) (walkFrom (v x) len (p + 1))
       (λ q. takes (ahead len) v ok (q + 1) xs) refl (story-takes n (p + 1) (x ∷ xs) (omega arith)) (story-takes n (p + 1) xs (omega arith))
-      ∙ ap (λ (w : Walked). followed ok w (λ q. takes (ahead len) v ok (q + 1) xs)) (sym (walk-on (v x) len p (omega arith)))
+      ∙ ap (λ (w : Walked). onWalked ok w (λ q. takes (ahead len) v ok (q + 1) xs)) (sym (walk-on (v x) len p (omega arith)))
 
 -- the turn that is told of place p for a value
 abbrev pub turnAt : Matcher → List ℕ → Test → List Glyph → List Glyph → ℕ → ℕ → ℕ → Turn

@@ -1,7 +1,6 @@
 // What there is to say of a glyph that input matching meets: what is asked of it, which rule decided, and what came of it.
 // Every answer here is equal to a definition over those of `verdict`, `ligature` and `matching`, so that no wrong reason can be given.
 use glyph::Glyph;
-use ligature::Base;
 use ligature::Ligbase;
 use verdict::Matcher;
 use verdict::MayMatch;
@@ -11,9 +10,7 @@ use verdict::Test;
 use verdict::Verdict;
 ghost use mathlib.Core.Path.{_≡_};
 ghost use mathlib.Core.Bool.{cond};
-ghost use lib.ListN.{length};
 ghost use Rattle.glyph.specs.Glyph.{glyphsOf};
-ghost use Rattle.ligature.specs.Ligature.{baseBefore};
 ghost use Rattle.explain_glyph.specs.Reason.{yesReason, noReason, skipReason, valueReason, matchReason};
 ghost use Rattle.explain_glyph.specs.Told.{seenOf, joinedOf, turnBy, toldOf};
 
@@ -195,27 +192,6 @@ fn join(first: Glyph, this: Glyph, searched: &[u32], m: Matcher, sets: &[u16]) -
     let base = ligature::look_for_base(Ligbase::NotChecked, first, this, searched, m, sets);
     let joins = ligature::may_join(first, this, base);
     Joined { base, joins }
-}
-
-// The base of a ligature id as the ligature rule searches for it: back over glyphs, from the last to the first.
-pub fn find_base(row: &[u32], id: u8) -> Base
-    ensures { λ r. ⌜ r ≡ baseBefore id (glyphsOf (now (row .entry))) (length (glyphsOf (now (row .entry)))) ⌝ }
-{
-    let mut j = glyph::count(row);
-    loop {
-        if j == 0 {
-            break Base::Nothing;
-        }
-        j -= 1;
-        let g = glyph::read(row, j);
-        if g.lig == id {
-            if g.comp == 0 {
-                break Base::At(j);
-            }
-        } else {
-            break Base::Nothing;
-        }
-    }
 }
 
 fn taken_if(joins: bool) -> Turn

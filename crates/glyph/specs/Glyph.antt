@@ -4,7 +4,8 @@ use mathlib.Core.Path.{_≡_}
 use mathlib.Core.Bool.{Bool, not, _||_}
 use mathlib.Core.List.{List, [], _∷_}
 use lib.Dec.{eqb, ltb}
-use lib.ListN.{length, getD, take, drop, replicate}
+use lib.ListN.{length, getD, take, drop}
+use Rattle.bits.specs.Bits.{zeros}
 use Rattle.glyph.specs.declared.Glyph.{Glyph}
 
 -- words a glyph
@@ -70,9 +71,6 @@ Row n w = length w ≡ words * n
 -- refusal 1: a row not whole glyphs, or over the limit
 unfoldable pub illShaped : List ℕ → Bool
 illShaped w = not (eqb (length w % words) 0) || ltb limit (length (glyphsOf w))
-
-abbrev pub zeros : ℕ → List ℕ
-zeros n = replicate n 0
 
 -- the glyph whose words are 0
 unfoldable pub blank : Glyph

@@ -9,7 +9,8 @@ use lib.ListN.{length, getD, set, take, drop, replicate, length-append, length-d
 use lib.ListN.{getD-replicate, replicate-append-replicate}
 use lib.Seq.{length-take-le, take-all, append-snoc, set-split, getD-drop, sets, sets-eq, paste, paste-suc}
 use Rattle.glyph.specs.declared.Glyph.{Glyph}
-use Rattle.glyph.specs.Glyph.{words, glyphOf, wordsOf, Fields, glyphs, glyphsOf, zeros, blank}
+use Rattle.bits.specs.Bits.{zeros}
+use Rattle.glyph.specs.Glyph.{words, glyphOf, wordsOf, Fields, glyphs, glyphsOf, blank}
 use Rattle.glyph.specs.Laws.{length-glyphsOf, glyphsOf-append, take-glyphsOf, drop-glyphsOf, glyphsOf-nil, glyphsOf-cons}
 use Rattle.glyph.specs.Lossless.{length-wordsOf, glyph-back}
 

@@ -24,7 +24,7 @@ pub enum Ligbase {
 }
 
 // Back over glyphs, from the last to the first: the base of the ligature id.
-fn seek_base(row: &[u32], id: u8) -> Base
+pub fn find_base(row: &[u32], id: u8) -> Base
     ensures { λ r. ⌜ r ≡ baseBefore id (glyphsOf (now (row .entry))) (length (glyphsOf (now (row .entry)))) ⌝ }
 {
     let mut j = glyph::count(row);
@@ -48,7 +48,7 @@ fn seek_base(row: &[u32], id: u8) -> Base
 fn is_base_skipped(row: &[u32], id: u8, m: Matcher, sets: &[u16]) -> bool
     ensures { λ r. ⌜ r ≡ baseSkips m (now (sets .entry)) id (glyphsOf (now (row .entry))) ⌝ }
 {
-    match seek_base(row, id) {
+    match find_base(row, id) {
         Base::At(j) => verdict_skip::is_skip_yes(m, sets, glyph::read(row, j)),
         Base::Nothing => false,
     }

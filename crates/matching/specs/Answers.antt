@@ -1,11 +1,12 @@
 -- The answers that an outcome gives, and this paper's number and values for each case of each answer (01, "When the desk says no").
 use Prim.Native.Nat.{ℕ, _+_, _-_}
-use mathlib.Core.Bool.{Bool, true, false}
+use mathlib.Core.Bool.{Bool, true, false, cond}
+use lib.Dec.{eqb}
 use mathlib.Core.List.{List, [], _∷_, _++_}
 use lib.ListN.{length, getD, take, replicate}
 use Rattle.glyph.specs.declared.Glyph.{Glyph}
 use Rattle.glyph.specs.Glyph.{blank}
-use Rattle.glyph.specs.Reply.{Reply}
+use Rattle.glyph.specs.Reply.{Reply, replies}
 use Rattle.matching.specs.declared.Refusal.{Refusal}
 use Rattle.matching.specs.declared.Refusal.the-variants.{Shape, Cursor, Values, Start}
 use Rattle.matching.specs.declared.InputAnswer.{InputAnswer}
@@ -57,26 +58,24 @@ refusalNumber Cursor = 2
 refusalNumber Values = 3
 refusalNumber Start = 6
 
-abbrev numberOnly : ℕ → Reply
-numberOnly n = record { number = n; values = [] }
-
-abbrev extentOf : ℕ → Reply
-extentOf extent = record { number = 4; values = extent ∷ [] }
+-- an answer by its number, for a caller that has no enums: 0 is a success; of any other number a run needs to know only that it is none
+abbrev pub answerFrom : ℕ → ℕ → ℕ → InputAnswer
+answerFrom number end total = cond (eqb number 0) (InputAnswer.Matched end total) InputAnswer.Ligature
 
 abbrev inputReplyBy : InputAnswer → List ℕ → Reply
-inputReplyBy (InputAnswer.Matched end total) positions = record { number = 0; values = end ∷ total ∷ length positions ∷ positions }
-inputReplyBy (InputAnswer.Refused why) positions = numberOnly (refusalNumber why)
-inputReplyBy (InputAnswer.Lost extent) positions = extentOf extent
-inputReplyBy InputAnswer.Ligature positions = numberOnly 5
+inputReplyBy (InputAnswer.Matched end total) positions = replies 0 (end ∷ total ∷ length positions ∷ positions)
+inputReplyBy (InputAnswer.Refused why) positions = replies (refusalNumber why) []
+inputReplyBy (InputAnswer.Lost extent) positions = replies 4 (extent ∷ [])
+inputReplyBy InputAnswer.Ligature positions = replies 5 []
 
 -- end, total, the number of positions, and the positions
 abbrev pub inputReply : InputMatch → Reply
 inputReply m = inputReplyBy (m .answer) (take (m .count) (m .positions))
 
 abbrev pub contextReply : ContextMatch → Reply
-contextReply (ContextMatch.Matched place) = record { number = 0; values = place ∷ [] }
-contextReply (ContextMatch.Refused why) = numberOnly (refusalNumber why)
-contextReply (ContextMatch.Lost extent) = extentOf extent
+contextReply (ContextMatch.Matched place) = replies 0 (place ∷ [])
+contextReply (ContextMatch.Refused why) = replies (refusalNumber why) []
+contextReply (ContextMatch.Lost extent) = replies 4 (extent ∷ [])
 
 -- ---- the code's side: answers by their cases, and how they are put together
 

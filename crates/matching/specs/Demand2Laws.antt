@@ -9,7 +9,7 @@ use Rattle.walk.specs.declared.Walked.{Walked}
 use Rattle.walk.specs.declared.Walked.the-variants.{Found, Stopped, RanOut, Refused}
 use Rattle.walk.specs.Laws.{walk-means, walk-found, walk-stopped, walk-ran-out}
 use Rattle.walk.specs.Backward.{back-means, back-found, back-stopped, back-ran-out}
-use Rattle.matching.specs.Take.{Way, ahead, behind, walkBy, past, Outcome, taken, lost, unlike, having, followed, takes}
+use Rattle.matching.specs.Take.{Way, ahead, behind, walkBy, past, Outcome, taken, lost, unlike, having, onWalked, takes}
 use Rattle.matching.specs.Matchers.{anywhere}
 use Rattle.matching.specs.Demand2.{Takes, Fails, Accepts, noValue, more, Loses, fails, fails-later, TurnsDown, turned, turned-later, Demand2}
 
@@ -55,7 +55,7 @@ module _ {X : Type 0} (way : Way) (v : X → ℕ → Verdict) (ok : ℕ → Bool
   by-rule p x q xs false o k t s = turned t k
 
   by-walk : (p : ℕ) (x : X) (xs : List X) (w : Walked) → walkBy way (v x) p ≡ w → ((q : ℕ) → Says (past way q) xs (takes way v ok (past way q) xs))
-      → Says p (x ∷ xs) (followed ok w (λ q. takes way v ok (past way q) xs))
+      → Says p (x ∷ xs) (onWalked ok w (λ q. takes way v ok (past way q) xs))
   by-walk p x xs (Found q) e s = by-rule p x q xs (ok q) (takes way v ok (past way q) xs) refl (walk-takes way (v x) p q .0 e) (s q)
   by-walk p x xs (Stopped extent) e s = fails (walk-stops way (v x) p extent e)
   by-walk p x xs (RanOut extent) e s = fails (walk-runs-out way (v x) p extent e)
@@ -71,13 +71,13 @@ module _ {X : Type 0} (way : Way) (v : X → ℕ → Verdict) (ok : ℕ → Bool
       → takes way v ok p (x ∷ xs) ≡ cond b (having (q ∷ []) (takes way v ok (past way q) xs)) unlike
   unfolding takes
   on p x q xs b t k =
-      ap (λ (w : Walked). followed ok w (λ r. takes way v ok (past way r) xs)) (walk-takes way (v x) p q .1 t)
+      ap (λ (w : Walked). onWalked ok w (λ r. takes way v ok (past way r) xs)) (walk-takes way (v x) p q .1 t)
       ∙ ap (λ (b : Bool). cond b (having (q ∷ []) (takes way v ok (past way q) xs)) unlike) k
 
   stops-here : (p : ℕ) (x : X) (extent : ℕ) (xs : List X) → (walkBy way (v x) p ≡ Stopped extent) ⊎ (walkBy way (v x) p ≡ RanOut extent) → takes way v ok p (x ∷ xs) ≡ lost extent
   unfolding takes
-  stops-here p x extent xs (inl e) = ap (λ (w : Walked). followed ok w (λ r. takes way v ok (past way r) xs)) e
-  stops-here p x extent xs (inr e) = ap (λ (w : Walked). followed ok w (λ r. takes way v ok (past way r) xs)) e
+  stops-here p x extent xs (inl e) = ap (λ (w : Walked). onWalked ok w (λ r. takes way v ok (past way r) xs)) e
+  stops-here p x extent xs (inr e) = ap (λ (w : Walked). onWalked ok w (λ r. takes way v ok (past way r) xs)) e
 
   accepts : {p : ℕ} {xs : List X} {places : List ℕ} → Accepts way v ok p xs places → takes way v ok p xs ≡ taken places
   unfolding takes

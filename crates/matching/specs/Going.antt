@@ -14,10 +14,10 @@ use Rattle.verdict.specs.declared.Verdict.the-variants.{Skip}
 use Rattle.walk.specs.declared.Walked.{Walked}
 use Rattle.walk.specs.declared.Walked.the-variants.{Found, Stopped, RanOut, Refused}
 use Rattle.walk.specs.Walk.{onVerdict, walkFrom, onVerdictBack, walkBack}
-use Rattle.walk.specs.Steps.{walk-on, back-on, back-end}
+use Rattle.walk.specs.Steps.{walk-on, back-on-by, back-end}
 use Rattle.matching.specs.declared.InputAnswer.{InputAnswer}
 use Rattle.matching.specs.declared.ContextMatch.{ContextMatch}
-use Rattle.matching.specs.Take.{slots, Way, ahead, behind, walkBy, past, Outcome, taken, lost, unlike, having, followed, takes, reached}
+use Rattle.matching.specs.Take.{slots, Way, ahead, behind, walkBy, past, Outcome, taken, lost, unlike, having, onWalked, takes, reached}
 use Rattle.matching.specs.Matchers.{anywhere}
 use Rattle.matching.specs.Answers.{slotted, ligated, totalOf, inputTold, contextTold}
 
@@ -43,7 +43,7 @@ module _ (way : Way) where
     toldBy (RanOut extent) rest = ContextMatch.Lost extent
     toldBy Refused rest = ContextMatch.Lost 0
 
-    by-walk : (p : ℕ) (w : Walked) (rest : List ℕ) → contextTold way p (followed anywhere w (λ q. takes way v anywhere (past way q) rest)) ≡ toldBy w rest
+    by-walk : (p : ℕ) (w : Walked) (rest : List ℕ) → contextTold way p (onWalked anywhere w (λ q. takes way v anywhere (past way q) rest)) ≡ toldBy w rest
     by-walk p (Found q) rest = told-rest p q (takes way v anywhere (past way q) rest)
     by-walk p (Stopped extent) rest = refl
     by-walk p (RanOut extent) rest = refl
@@ -70,7 +70,7 @@ module _ (v : ℕ → ℕ → Verdict) (i : ℕ) (values : List ℕ) (h : i < le
   back-turn place p r l e =
       told-on behind v place i values h
       ∙ ap (λ (w : Walked). toldBy behind v w (drop (i + 1) values))
-      (back-on due place p l ∙ ap (λ (r : Verdict). onVerdictBack r p (walkBack due p)) e)
+      (back-on-by due place p l r e)
 
   pub back-skip : (place p : ℕ) → place ≡ suc p → due p ≡ Skip → told behind v place (drop i values) ≡ told behind v p (drop i values)
   back-skip place p l e = back-turn place p Skip l e ∙ sym (told-on behind v p i values h)
@@ -144,15 +144,15 @@ module _ (gs : List Glyph) (v : ℕ → ℕ → Verdict) (ok : ℕ → Bool) (id
   module _ (positions : List ℕ) (total next i : ℕ) (g : Going gs v ok idx values positions total next i) where
     -- what the values left take from p on, by the walk for the one that is due
     left-on : (p : ℕ) → i < length values
-        → from p (drop i values) ≡ followed ok (walkFrom (v (getD values i 0)) (length gs) p) (λ q. from (q + 1) (drop (i + 1) values))
+        → from p (drop i values) ≡ onWalked ok (walkFrom (v (getD values i 0)) (length gs) p) (λ q. from (q + 1) (drop (i + 1) values))
     unfolding takes
     left-on p h = rw (add-one i) (ap (from p) (drop-cons values i 0 h))
 
     -- what a turn's walk makes of the whole
     pub turn : i < length values → (w : Walked) → walkFrom (v (getD values i 0)) (length gs) next ≡ w
-        → from (idx + 1) values ≡ having (g .qs) (followed ok w (λ q. from (q + 1) (drop (i + 1) values)))
+        → from (idx + 1) values ≡ having (g .qs) (onWalked ok w (λ q. from (q + 1) (drop (i + 1) values)))
     turn h w e =
-        g .left ∙ ap (having (g .qs)) (left-on next h ∙ ap (λ (w : Walked). followed ok w (λ q. from (q + 1) (drop (i + 1) values))) e)
+        g .left ∙ ap (having (g .qs)) (left-on next h ∙ ap (λ (w : Walked). onWalked ok w (λ q. from (q + 1) (drop (i + 1) values))) e)
 
     -- the walk for the value that is due, by the verdict on the next place
     pub walks : (r : Verdict) → next < length gs → v (getD values i 0) next ≡ r

@@ -7,14 +7,14 @@ use Rattle.glyph.specs.declared.Glyph.{Glyph}
 use Rattle.verdict.specs.declared.Verdict.{Verdict}
 use Rattle.verdict.specs.Verdict.{Asked}
 use Rattle.matching.specs.declared.Terms.{Terms}
-use Rattle.matching.specs.Take.{Way, walkBy, past, followed, takes}
+use Rattle.matching.specs.Take.{Way, walkBy, past, onWalked, takes}
 use Rattle.matching.specs.Matchers.{inputBy, inputOn, aheadOn, backOn}
 
 module _ {X Y : Type 0} (f : X → Y) (way : Way) (v : Y → ℕ → Verdict) (ok : ℕ → Bool) where
   pub takes-map : (p : ℕ) (xs : List X) → takes way (λ x. v (f x)) ok p xs ≡ takes way v ok p (map f xs)
   unfolding takes
   takes-map p [] = refl
-  takes-map p (x ∷ xs) = λ j. followed ok (walkBy way (v (f x)) p) (λ q. takes-map (past way q) xs j)
+  takes-map p (x ∷ xs) = λ j. onWalked ok (walkBy way (v (f x)) p) (λ q. takes-map (past way q) xs j)
 
 module _ {X Y : Type 0} (f : X → Y) (lookup : Terms) (sets : List ℕ) (test : Y → Asked) where
   pub input-map : (done coming : List Glyph) (idx : ℕ) (values : List X)

@@ -8,7 +8,7 @@ use mathlib.Core.Logic.{_↔_}
 use lib.ListN.{length, getD}
 use Rattle.glyph.specs.declared.Glyph.{Glyph}
 use Rattle.glyph.specs.Glyph.{blank}
-use Rattle.glyph.specs.Reply.{Reply}
+use Rattle.glyph.specs.Reply.{Reply, replies}
 use Rattle.verdict.specs.Verdict.{Asked}
 use Rattle.verdict.specs.declared.Verdict.{Verdict}
 use Rattle.matching.specs.declared.Terms.{Terms}
@@ -18,9 +18,6 @@ use Rattle.matching.specs.Take.{Way, ahead, reached}
 use Rattle.matching.specs.Matchers.{judge, joins, anywhere, inputMatcherOf, contextMatcherOf, searchedGlyphs}
 use Rattle.matching.specs.Answers.{totalOf, matchedAt, inputReply, contextReply}
 use Rattle.matching.specs.Demand2.{Accepts, Loses, TurnsDown}
-
-abbrev pub replies : ℕ → List ℕ → Reply
-replies n vs = record { number = n; values = vs }
 
 -- end, total, the number of positions and the positions, of which the cursor is the first
 abbrev pub inputSuccess : List Glyph → ℕ → List ℕ → Reply

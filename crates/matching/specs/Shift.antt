@@ -17,7 +17,7 @@ use Rattle.walk.specs.Walk.{walkFrom}
 use Rattle.walk.specs.Laws.{walk-means}
 use Rattle.walk.specs.Parts.{raised, walk-shift, walk-same, back-same}
 use Rattle.matching.specs.declared.Terms.{Terms}
-use Rattle.matching.specs.Take.{Way, ahead, behind, walkBy, past, Outcome, taken, lost, unlike, having, followed, takes, reached}
+use Rattle.matching.specs.Take.{Way, ahead, behind, walkBy, past, Outcome, taken, lost, unlike, having, onWalked, takes, reached}
 use Rattle.ligature.specs.Ligature.{mayJoin, baseSkips}
 use Rattle.matching.specs.Matchers.{judge, joins, anywhere, inputMatcherOf, contextMatcherOf, searchedGlyphs, inputBy, inputOn, aheadOn}
 use Rattle.matching.specs.Answers.{ligated, totalOf}
@@ -38,7 +38,7 @@ module _ {X : Type 0} (way : Way) (u v : X → ℕ → Verdict) (ok ok′ : ℕ 
   walk-by-same (ahead len) x p = walk-same (u x) (v x) len p (λ k l g. same x k)
   walk-by-same behind x p = back-same (u x) (v x) p (λ k l. same x k)
 
-  follow-same : (w : Walked) (f g : ℕ → Outcome) → ((q : ℕ) → f q ≡ g q) → followed ok w f ≡ followed ok′ w g
+  follow-same : (w : Walked) (f g : ℕ → Outcome) → ((q : ℕ) → f q ≡ g q) → onWalked ok w f ≡ onWalked ok′ w g
   follow-same (Found q) f g e = ap₂ (λ (b : Bool) (o : Outcome). cond b (having (q ∷ []) o) unlike) (same′ q) (e q)
   follow-same (Stopped extent) f g e = refl
   follow-same (RanOut extent) f g e = refl
@@ -48,7 +48,7 @@ module _ {X : Type 0} (way : Way) (u v : X → ℕ → Verdict) (ok ok′ : ℕ 
   unfolding takes
   takes-same p [] = refl
   takes-same p (x ∷ xs) =
-      ap (λ (w : Walked). followed ok w (λ q. takes way u ok (past way q) xs)) (walk-by-same way x p)
+      ap (λ (w : Walked). onWalked ok w (λ q. takes way u ok (past way q) xs)) (walk-by-same way x p)
       ∙ follow-same (walkBy way (v x) p) (λ q. takes way u ok (past way q) xs) (λ q. takes way v ok′ (past way q) xs) (λ q. takes-same (past way q) xs)
 
 -- ---- any judge, any rule
@@ -70,7 +70,7 @@ module _ {X : Type 0} (v : X → ℕ → Verdict) (ok : ℕ → Bool) (start len
   by-rule q true o o′ e = ap (having ((start + q) ∷ [])) e ∙ having-raised start q o′
   by-rule q false o o′ e = refl
 
-  by-walk : (w : Walked) (f g : ℕ → Outcome) → (w ≡ Refused → ⊥) → ((q : ℕ) → f (start + q) ≡ raisedBy start (g q)) → followed ok (raised start w) f ≡ raisedBy start (followed ok′ w g)
+  by-walk : (w : Walked) (f g : ℕ → Outcome) → (w ≡ Refused → ⊥) → ((q : ℕ) → f (start + q) ≡ raisedBy start (g q)) → onWalked ok (raised start w) f ≡ raisedBy start (onWalked ok′ w g)
   by-walk (Found q) f g n e = by-rule q (ok (start + q)) (f (start + q)) (g q) (e q)
   by-walk (Stopped extent) f g n e = refl
   by-walk (RanOut extent) f g n e = refl
@@ -80,7 +80,7 @@ module _ {X : Type 0} (v : X → ℕ → Verdict) (ok : ℕ → Bool) (start len
   unfolding takes
   takes-shift p [] = refl
   takes-shift p (x ∷ xs) =
-      ap (λ (w : Walked). followed ok w (λ q. takes (ahead (start + len)) v ok (q + 1) xs)) (sym (walk-shift (v x) start len p))
+      ap (λ (w : Walked). onWalked ok w (λ q. takes (ahead (start + len)) v ok (q + 1) xs)) (sym (walk-shift (v x) start len p))
       ∙ by-walk (walkFrom (v′ x) len p) (λ q. takes (ahead (start + len)) v ok (q + 1) xs) (λ q. takes (ahead len) v′ ok′ (q + 1) xs)
       (λ e. walk-means (v′ x) len p Refused .0 e)
       (λ q.

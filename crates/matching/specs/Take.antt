@@ -39,16 +39,16 @@ having qs (lost extent) = lost extent
 having qs unlike = unlike
 
 -- what a walk's answer makes of the rest; no walk below the calls is refused
-abbrev pub followed : (ℕ → Bool) → Walked → (ℕ → Outcome) → Outcome
-followed ok (Found q) rest = cond (ok q) (having (q ∷ []) (rest q)) unlike
-followed ok (Stopped extent) rest = lost extent
-followed ok (RanOut extent) rest = lost extent
-followed ok Refused rest = lost 0
+abbrev pub onWalked : (ℕ → Bool) → Walked → (ℕ → Outcome) → Outcome
+onWalked ok (Found q) rest = cond (ok q) (having (q ∷ []) (rest q)) unlike
+onWalked ok (Stopped extent) rest = lost extent
+onWalked ok (RanOut extent) rest = lost extent
+onWalked ok Refused rest = lost 0
 
 -- each value, of whatever kind, takes the place that the walk for it finds, and the rule is asked before the next value
 unfoldable pub takes : {X : Type 0} → Way → (X → ℕ → Verdict) → (ℕ → Bool) → ℕ → List X → Outcome
 takes way v ok p [] = taken []
-takes way v ok p (x ∷ xs) = followed ok (walkBy way (v x) p) (λ q. takes way v ok (past way q) xs)
+takes way v ok p (x ∷ xs) = onWalked ok (walkBy way (v x) p) (λ q. takes way v ok (past way q) xs)
 
 -- from where a walk would go on after these places: forward the last and one more, backward the last; with none, where it began
 unfoldable pub reached : Way → ℕ → List ℕ → ℕ

@@ -14,7 +14,7 @@ ghost use Rattle.glyph.specs.Glyph.{glyphsOf};
 ghost use Rattle.verdict.specs.Verdict.{valueBy};
 ghost use Rattle.matching.specs.Take.{slots};
 ghost use Rattle.matching.specs.Matchers.{InputReady, inputBy, inputOn, searchedGlyphs};
-ghost use Rattle.matching.specs.Answers.{slotted, countOf, madeOf, inputTold};
+ghost use Rattle.matching.specs.Answers.{slotted, countOf, madeOf, inputTold, refusalNumber, answerFrom};
 
 // Positions of a match, at most.
 pub const MAX_CONTEXT_LENGTH: usize = 64;
@@ -125,7 +125,8 @@ pub fn searched_row(table: Table, before: &[u32]) -> &[u32]
     }
 }
 
-// Input with a matcher. The positions are written to slots that are lent, so that they are handed on only once.
+// Input with a matcher. The positions are written to slots that are lent, so that they are handed on only once. The forward walk's loop stands here once
+// more, for speed: one loop goes over all values, where a walk for each would be a call for each. The laws of a turn are the walk's (walk/Steps).
 pub fn take_input(
     searched: &[u32],
     text: &[u32],
@@ -180,4 +181,27 @@ fn lose(answer: InputAnswer, positions: &mut [u16; 64]) -> InputAnswer
 {
     *positions = [0u16; 64];
     answer
+}
+
+// ---- 01's number of a refusal, and an answer by its number
+
+pub fn refusal_number(why: Refusal) -> u8
+    ensures { λ r. ⌜ r ≡ refusalNumber why ⌝ }
+{
+    match why {
+        Refusal::Shape => 1,
+        Refusal::Cursor => 2,
+        Refusal::Values => 3,
+        Refusal::Start => 6,
+    }
+}
+
+pub fn answer_from(number: u8, end: usize, total: u16) -> InputAnswer
+    ensures { λ r. ⌜ r ≡ answerFrom number end total ⌝ }
+{
+    if number == 0 {
+        InputAnswer::Matched { end, total }
+    } else {
+        InputAnswer::Ligature
+    }
 }

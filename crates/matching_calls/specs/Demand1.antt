@@ -11,7 +11,6 @@ use lib.Dec.{eqb, leb}
 use lib.ListN.{length, getD, take}
 use Rattle.glyph.specs.declared.Glyph.{Glyph}
 use Rattle.glyph.specs.Glyph.{glyphsOf, blank}
-use Rattle.glyph.specs.Reply.{Reply}
 use Rattle.glyph.specs.Order.{Line, RefusedBy}
 use Rattle.verdict.specs.Verdict.{Asked}
 use Rattle.matching.specs.declared.Terms.{Terms}
@@ -24,7 +23,7 @@ use Rattle.matching.specs.Take.{Way, ahead, behind, Outcome, taken, lost, unlik
 use Rattle.matching.specs.Matchers.{inputOn, aheadOn, backOn, backwardGlyphs}
 use Rattle.matching.specs.Answers.{slotted, inputTold, contextTold, refusalNumber, inputReply, contextReply}
 use Rattle.matching_calls.specs.Calls.{inputFit, aheadFit, backFit, fitNumber, inputUnless, contextUnless, inputOf, aheadOf, backOf}
-use Rattle.matching.specs.Promises.{replies}
+use Rattle.glyph.specs.Reply.{Reply, replies, numberIn, has-values, apart-by}
 use Rattle.matching_calls.specs.Lines.{inputLines, InputAcceptable, aheadLines, AheadAcceptable, backLines, BackAcceptable}
 use Rattle.matching_calls.specs.Table as table
 
@@ -63,16 +62,10 @@ refuses Start = refl
 
 -- a number that is no refusal's
 apart : (why : Refusal) (n : ℕ) → isRefusal n ≡ false → refusalNumber why ≡ n → ⊥
-apart why n f e = true≢false (sym (refuses why) ∙ ap isRefusal e ∙ f)
+apart why n f e = apart-by isRefusal (refusalNumber why) n (refuses why) f e
 
 not-fits : (w : Refusal) → Fit.Refused w ≡ Fit.Fits → ⊥
 not-fits w e = let z : _≡_ {A = Bool} true false = cc in true≢false z
-
-abbrev numberIn : Reply → ℕ
-numberIn r = r .number
-
-has-values : {k n v : ℕ} {vs : List ℕ} → replies k (v ∷ vs) ≡ replies n [] → ⊥
-has-values e = let z = ap (λ (r : Reply). length (r .values)) e in omega arith
 
 -- ---- input, by what the tests said and what came of the match
 

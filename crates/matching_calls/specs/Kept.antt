@@ -22,7 +22,8 @@ use Rattle.matching.specs.Matchers.{judge, anywhere, contextMatcherOf, inputBy,
 use Rattle.matching.specs.Answers.{slotted, without, totalOf, inputTold, contextTold, inputReply, contextReply}
 use Rattle.matching.specs.Demand2.{Loses}
 use Rattle.matching.specs.Demand2Laws.{demand-2, never-turned}
-use Rattle.matching.specs.Promises.{replies, inputSuccess, InputPromise, Leads, ContextPromise, inputJudge, inputRule, contextJudge}
+use Rattle.glyph.specs.Reply.{replies}
+use Rattle.matching.specs.Promises.{inputSuccess, InputPromise, Leads, ContextPromise, inputJudge, inputRule, contextJudge}
 use Rattle.matching_calls.specs.Calls.{inputUnless, contextUnless, inputOf, aheadOf, backOf}
 use Rattle.matching_calls.specs.Lines.{InputAcceptable, AheadAcceptable, BackAcceptable}
 use Rattle.matching_calls.specs.Table.{input-fits, ahead-fits, back-fits}

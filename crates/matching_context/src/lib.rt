@@ -54,7 +54,7 @@ pub fn lookahead(
     ContextMatch::Matched(start + next)
 }
 
-// Backtrack, from the end of the backward row.
+// Backtrack, from the end of the backward row. The backward walk's loop stands here once more, for speed, as the forward one does in `matching::take_input`.
 pub fn backtrack(
     row: &[u32],
     syllable: u8,

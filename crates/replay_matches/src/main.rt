@@ -7,13 +7,16 @@
 use matching::ContextMatch;
 use matching::InputAnswer;
 use matching::InputMatch;
-use matching::Refusal;
 use matching::Terms;
-use stored::part;
+use stored::Replayed;
+use stored::after;
+use stored::list;
+use stored::listed;
+use stored::more;
+use stored::say;
+use stored::size;
+use stored::slots_are;
 use stored::word;
-use verdict::Settings;
-use verdict::Table;
-use verdict::Test;
 
 struct Tally {
     input: u64,
@@ -23,33 +26,10 @@ struct Tally {
     wrong: u64,
 }
 
-// A line that was replayed: whether our answer was the stored one, and where the next line begins.
-struct Replayed {
-    right: bool,
-    next: usize,
-}
-
-// A list of a line: its first word and the word after it.
-struct Span {
-    from: usize,
-    to: usize,
-}
-
 fn main() {
-    let mut text = text_room();
-    let n = io::read_full(0, &mut text);
-    let mut words = word_room();
-    let count = stored::decode(&text[..n], &mut words);
+    let mut words = stored::word_room();
+    let count = stored::read_list(&mut words);
     report(replay(&words, count));
-}
-
-// Room for a whole list, and for its words.
-fn text_room() -> [u8; 1048576] {
-    [0; 1048576]
-}
-
-fn word_room() -> [u32; 116508] {
-    [0; 116508]
 }
 
 fn report(t: Tally) {
@@ -59,11 +39,6 @@ fn report(t: Tally) {
     say(b", differences ", t.differences);
     say(b"; answered otherwise ", t.wrong);
     io::write_all(1, b"\n");
-}
-
-fn say(words: &[u8], n: u64) {
-    io::write_all(1, words);
-    io::print_decimal(1, n);
 }
 
 fn replay(words: &[u32], count: usize) -> Tally {
@@ -98,34 +73,6 @@ fn counted(t: Tally, op: u32, right: bool) -> Tally {
     }
 }
 
-fn more(n: u64, so: bool) -> u64 {
-    if so {
-        std::num::wrapping_add_u64(n, 1)
-    } else {
-        n
-    }
-}
-
-fn after(at: usize, n: usize) -> usize {
-    std::num::wrapping_add_usize(at, n)
-}
-
-fn size(words: &[u32], k: usize) -> usize {
-    word(words, k) as usize
-}
-
-// The list whose number stands in word k.
-fn list(words: &[u32], k: usize) -> Span {
-    Span {
-        from: after(k, 1),
-        to: after(after(k, 1), size(words, k)),
-    }
-}
-
-fn listed(words: &[u32], s: Span) -> &[u32] {
-    part(words, s.from, s.to)
-}
-
 fn one(words: &[u32], at: usize) -> Replayed {
     let marks = list(words, after(at, 12));
     let values = list(words, marks.to);
@@ -153,8 +100,8 @@ fn asked<'a>(
     coming: &'a [u32],
     k: usize,
 ) -> Replayed {
-    let lookup = lookup_at(words, at);
-    let test = test(word(words, after(at, 7)));
+    let terms = terms_at(words, at);
+    let test = verdict::test_of((word(words, after(at, 7)) % 256) as u8);
     let d = size(words, after(at, 8));
     let len = size(words, after(at, 9));
     let idx = size(words, after(at, 10));
@@ -162,7 +109,7 @@ fn asked<'a>(
     match op {
         40 => input_is(
             words,
-            matching_calls::match_input(done, d, coming, len, idx, lookup, sets, test, values),
+            matching_calls::match_input(done, d, coming, len, idx, terms, sets, test, values),
             k,
         ),
         41 => context_is(
@@ -174,7 +121,7 @@ fn asked<'a>(
                 len,
                 idx,
                 size(words, after(at, 11)),
-                lookup,
+                terms,
                 sets,
                 test,
                 values,
@@ -183,54 +130,24 @@ fn asked<'a>(
         ),
         _ => context_is(
             words,
-            matching_calls::match_backtrack(done, d, coming, len, idx, lookup, sets, test, values),
+            matching_calls::match_backtrack(done, d, coming, len, idx, terms, sets, test, values),
             k,
         ),
     }
 }
 
-fn lookup_at(words: &[u32], at: usize) -> Terms {
-    let table = table(word(words, after(at, 1)));
-    let settings = Settings {
-        table,
-        zwnj: word(words, after(at, 2)) == 1,
-        zwj: word(words, after(at, 3)) == 1,
-        syllables: word(words, after(at, 4)) == 1,
-    };
+fn terms_at(words: &[u32], at: usize) -> Terms {
     Terms {
-        settings,
+        settings: stored::settings_at(words, after(at, 1)),
         mask: word(words, after(at, 5)),
         props: word(words, after(at, 6)),
-    }
-}
-
-fn table(gpos: u32) -> Table {
-    if gpos == 1 { Table::Gpos } else { Table::Gsub }
-}
-
-fn test(n: u32) -> Test {
-    if n == 0 {
-        Test::Equal
-    } else if n == 1 {
-        Test::Any
-    } else {
-        Test::Nothing
-    }
-}
-
-fn refusal(why: Refusal) -> u32 {
-    match why {
-        Refusal::Shape => 1,
-        Refusal::Cursor => 2,
-        Refusal::Values => 3,
-        Refusal::Start => 6,
     }
 }
 
 fn context_is(words: &[u32], c: ContextMatch, k: usize) -> Replayed {
     match c {
         ContextMatch::Matched(place) => place_is(words, 0, place, k),
-        ContextMatch::Refused(why) => place_is(words, refusal(why), 0, k),
+        ContextMatch::Refused(why) => place_is(words, matching::refusal_number(why) as u32, 0, k),
         ContextMatch::Lost(extent) => place_is(words, 4, extent, k),
     }
 }
@@ -257,7 +174,12 @@ fn answer_is(words: &[u32], a: InputAnswer, k: usize) -> bool {
     match a {
         InputAnswer::Matched { end, total } => place_is(words, 0, end, k).right
             & total_is(word(words, after(k, 2)), total),
-        InputAnswer::Refused(why) => place_is(words, refusal(why), 0, k).right,
+        InputAnswer::Refused(why) => place_is(
+            words,
+            matching::refusal_number(why) as u32,
+            0,
+            k,
+        ).right,
         InputAnswer::Lost(extent) => place_is(words, 4, extent, k).right,
         InputAnswer::Ligature => place_is(words, 5, 0, k).right,
     }
@@ -267,26 +189,6 @@ fn total_is(stored: u32, total: u16) -> bool {
     (stored == 4294967295) | (stored == wide(total))
 }
 
-// The positions are the stored ones, and every slot past them is 0.
-fn slots_are(words: &[u32], positions: &[u16; 64], from: usize, count: usize) -> bool {
-    let mut k = 0;
-    while k < 64 {
-        if wanted(words, from, k, count) != wide(positions[k]) {
-            return false;
-        }
-        k += 1;
-    }
-    true
-}
-
 fn wide(x: u16) -> u32 {
     x as u32
-}
-
-fn wanted(words: &[u32], from: usize, k: usize, count: usize) -> u32 {
-    if k < count {
-        word(words, after(from, k))
-    } else {
-        0
-    }
 }

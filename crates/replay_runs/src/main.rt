@@ -8,7 +8,15 @@ use matching::InputAnswer;
 use matching::InputMatch;
 use run::Given;
 use run_calls::RunAnswer;
-use stored::part;
+use stored::Replayed;
+use stored::Span;
+use stored::after;
+use stored::list;
+use stored::listed;
+use stored::more;
+use stored::say;
+use stored::size;
+use stored::slots_are;
 use stored::word;
 
 // The words of a run's row.
@@ -24,17 +32,10 @@ struct Tally {
     wrong: u64,
 }
 
-// A line that was replayed: whether our answer was the stored one, and where the next line begins.
-struct Replayed {
-    right: bool,
+// A line that was replayed, and the number that we answered.
+struct Answered {
+    line: Replayed,
     number: u32,
-    next: usize,
-}
-
-// A list of a line: its first word and the word after it.
-struct Span {
-    from: usize,
-    to: usize,
 }
 
 // The lists that a line asks with.
@@ -48,20 +49,9 @@ struct Lists {
 }
 
 fn main() {
-    let mut text = text_room();
-    let n = io::read_full(0, &mut text);
-    let mut words = word_room();
-    let count = stored::decode(&text[..n], &mut words);
+    let mut words = stored::word_room();
+    let count = stored::read_list(&mut words);
     report(replay(&words, count));
-}
-
-// Room for a whole list, and for its words.
-fn text_room() -> [u8; 1048576] {
-    [0; 1048576]
-}
-
-fn word_room() -> [u32; 116508] {
-    [0; 116508]
 }
 
 fn report(t: Tally) {
@@ -73,11 +63,6 @@ fn report(t: Tally) {
     say(b", differences ", t.differences);
     say(b"; answered otherwise ", t.wrong);
     io::write_all(1, b"\n");
-}
-
-fn say(words: &[u8], n: u64) {
-    io::write_all(1, words);
-    io::print_decimal(1, n);
 }
 
 fn replay(words: &[u32], count: usize) -> Tally {
@@ -96,16 +81,16 @@ fn replay(words: &[u32], count: usize) -> Tally {
         if count <= at {
             return tally;
         }
-        let line = one(words, at);
-        tally = counted(tally, word(words, at), line);
+        let answered = one(words, at);
+        let line = answered.line;
+        tally = counted(tally, word(words, at), answered.number, line.right);
         at = line.next;
         left -= 1;
     }
     tally
 }
 
-fn counted(t: Tally, op: u32, line: Replayed) -> Tally {
-    let n = line.number;
+fn counted(t: Tally, op: u32, n: u32, right: bool) -> Tally {
     Tally {
         finished: more(t.finished, n == 0),
         short: more(t.short, n == 8),
@@ -113,40 +98,12 @@ fn counted(t: Tally, op: u32, line: Replayed) -> Tally {
         full: more(t.full, n == 10),
         refused: more(t.refused, (n != 0) & (n != 8) & (n != 9) & (n != 10)),
         differences: more(t.differences, 100 <= op),
-        wrong: more(t.wrong, !line.right),
+        wrong: more(t.wrong, !right),
     }
-}
-
-fn more(n: u64, so: bool) -> u64 {
-    if so {
-        std::num::wrapping_add_u64(n, 1)
-    } else {
-        n
-    }
-}
-
-fn after(at: usize, n: usize) -> usize {
-    std::num::wrapping_add_usize(at, n)
 }
 
 fn less(a: usize, b: usize) -> usize {
     if b <= a { a - b } else { 0 }
-}
-
-fn size(words: &[u32], k: usize) -> usize {
-    word(words, k) as usize
-}
-
-// The list whose number stands in word k.
-fn list(words: &[u32], k: usize) -> Span {
-    Span {
-        from: after(k, 1),
-        to: after(after(k, 1), size(words, k)),
-    }
-}
-
-fn listed(words: &[u32], s: Span) -> &[u32] {
-    part(words, s.from, s.to)
 }
 
 fn lists_from(words: &[u32], k: usize) -> Lists {
@@ -175,7 +132,7 @@ fn list_room() -> [u16; 4200] {
     [0; 4200]
 }
 
-fn one(words: &[u32], at: usize) -> Replayed {
+fn one(words: &[u32], at: usize) -> Answered {
     let l = lists_from(words, after(at, 10));
     let mut sets = list_room();
     let s = stored::narrow(listed(words, l.marks), &mut sets);
@@ -193,7 +150,7 @@ fn asked(
     sets: &[u16],
     book: &[u16],
     records: &[u16],
-) -> Replayed {
+) -> Answered {
     let before = listed(words, l.done);
     let ahead = listed(words, l.coming);
     let mut done = row_room();
@@ -255,10 +212,10 @@ fn store(row: &mut [u32], at: usize, v: u32) {
 }
 
 // The answer, then both rows.
-fn told(words: &[u32], a: RunAnswer, done: &[u32], coming: &[u32], k: usize) -> Replayed {
+fn told(words: &[u32], a: RunAnswer, done: &[u32], coming: &[u32], k: usize) -> Answered {
     let ending = a.ending;
     let positions = a.positions;
-    let number = desk_numbers::nestings::number_of(ending) as u32;
+    let number = run::number_of(ending) as u32;
     let count = size(words, after(k, 4));
     let before = list(words, after(after(k, 5), count));
     let ahead = list(words, before.to);
@@ -268,11 +225,11 @@ fn told(words: &[u32], a: RunAnswer, done: &[u32], coming: &[u32], k: usize) -> 
         & (size(words, after(k, 3)) == a.idx)
         & (count == a.count)
         & slots_are(words, &positions, after(k, 5), count);
-    Replayed {
+    let line = Replayed {
         right: same & rows_are(words, done, coming, before, ahead),
-        number,
         next: ahead.to,
-    }
+    };
+    Answered { line, number }
 }
 
 fn rows_are(words: &[u32], done: &[u32], coming: &[u32], before: Span, ahead: Span) -> bool {
@@ -294,28 +251,4 @@ fn holds(row: &[u32], from: usize, words: &[u32]) -> bool {
 
 fn cell(words: &[u32], from: usize, k: usize) -> u32 {
     if k < from { 0 } else { word(words, k - from) }
-}
-
-// The positions are the stored ones, and every slot past them is 0.
-fn slots_are(words: &[u32], positions: &[u16; 64], from: usize, count: usize) -> bool {
-    let mut k = 0;
-    while k < 64 {
-        if wanted(words, from, k, count) != wide(positions[k]) {
-            return false;
-        }
-        k += 1;
-    }
-    true
-}
-
-fn wide(x: u16) -> u32 {
-    x as u32
-}
-
-fn wanted(words: &[u32], from: usize, k: usize, count: usize) -> u32 {
-    if k < count {
-        word(words, after(from, k))
-    } else {
-        0
-    }
 }

@@ -2,12 +2,15 @@
 // and prints how many were asked of each kind and how many came out otherwise. A line's words are its operation, the state before,
 // the arguments, and the original's answer; a number of 64 bits is two words, the high one first.
 use allowance::Budget;
-use allowance::Charge;
 use allowance::Charged;
 use digest::SetDigest;
 use rule_digest::RuleSetDigest;
+use stored::Replayed;
+use stored::after;
+use stored::more;
 use stored::number;
 use stored::part;
+use stored::say;
 use stored::word;
 
 struct Tally {
@@ -17,27 +20,10 @@ struct Tally {
     wrong: u64,
 }
 
-// A line that was replayed: whether our answer was the stored one, and where the next line begins.
-struct Replayed {
-    right: bool,
-    next: usize,
-}
-
 fn main() {
-    let mut text = text_room();
-    let n = io::read_full(0, &mut text);
-    let mut words = word_room();
-    let count = stored::decode(&text[..n], &mut words);
+    let mut words = stored::word_room();
+    let count = stored::read_list(&mut words);
     report(replay(&words, count));
-}
-
-// Room for a whole list, and for its words.
-fn text_room() -> [u8; 1048576] {
-    [0; 1048576]
-}
-
-fn word_room() -> [u32; 116508] {
-    [0; 116508]
 }
 
 fn report(t: Tally) {
@@ -46,11 +32,6 @@ fn report(t: Tally) {
     say(b", allowances ", t.allowances);
     say(b"; answered otherwise ", t.wrong);
     io::write_all(1, b"\n");
-}
-
-fn say(words: &[u8], n: u64) {
-    io::write_all(1, words);
-    io::print_decimal(1, n);
 }
 
 fn replay(words: &[u32], count: usize) -> Tally {
@@ -74,7 +55,7 @@ fn replay(words: &[u32], count: usize) -> Tally {
     tally
 }
 
-// The tally with one line more. It wraps nowhere that a list of this size reaches.
+// The tally with one line more.
 fn counted(t: Tally, op: u32, right: bool) -> Tally {
     Tally {
         sets: more(t.sets, op < 10),
@@ -82,18 +63,6 @@ fn counted(t: Tally, op: u32, right: bool) -> Tally {
         allowances: more(t.allowances, 20 <= op),
         wrong: more(t.wrong, !right),
     }
-}
-
-fn more(n: u64, so: bool) -> u64 {
-    if so {
-        std::num::wrapping_add_u64(n, 1)
-    } else {
-        n
-    }
-}
-
-fn after(at: usize, n: usize) -> usize {
-    std::num::wrapping_add_usize(at, n)
 }
 
 // The three masks from word k on.
@@ -255,17 +224,10 @@ fn budget_is(words: &[u32], b: Budget, k: usize) -> Replayed {
 
 fn charge_is(words: &[u32], c: Charged, k: usize) -> Replayed {
     let charge = c.charge;
-    let y = yes_is(words, is_taken(charge), k);
+    let y = yes_is(words, allowance::is_taken(charge), k);
     let b = budget_is(words, c.left, y.next);
     Replayed {
         right: y.right & b.right,
         next: b.next,
-    }
-}
-
-fn is_taken(charge: Charge) -> bool {
-    match charge {
-        Charge::Taken => true,
-        Charge::Exhausted => false,
     }
 }

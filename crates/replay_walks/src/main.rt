@@ -4,15 +4,18 @@
 // context, test, value, syllable, place, len, how many words of mark sets and these, how many words of the row and these, and the answer.
 // An operation from 100 on is the same question where ours and the original's answers differ (docs/DIFFERENCES.md), with ours; from 200 on it is
 // one that is refused by 1, with 9 as its answer.
-use stored::part;
+use stored::Replayed;
+use stored::after;
+use stored::list;
+use stored::listed;
+use stored::more;
+use stored::say;
+use stored::size;
 use stored::word;
 use verdict::Matcher;
 use verdict::MayMatch;
 use verdict::MaySkip;
-use verdict::Settings;
 use verdict::Sign;
-use verdict::Table;
-use verdict::Test;
 use verdict::Verdict;
 use verdict_ask::MatchAnswer;
 use verdict_ask::SkipAnswer;
@@ -30,12 +33,6 @@ struct Tally {
     wrong: u64,
 }
 
-// A line that was replayed: whether our answer was the stored one, and where the next line begins.
-struct Replayed {
-    right: bool,
-    next: usize,
-}
-
 // What a line asks beside its rows.
 struct Question {
     op: u32,
@@ -47,20 +44,9 @@ struct Question {
 }
 
 fn main() {
-    let mut text = text_room();
-    let n = io::read_full(0, &mut text);
-    let mut words = word_room();
-    let count = stored::decode(&text[..n], &mut words);
+    let mut words = stored::word_room();
+    let count = stored::read_list(&mut words);
     report(replay(&words, count));
-}
-
-// Room for a whole list, and for its words.
-fn text_room() -> [u8; 1048576] {
-    [0; 1048576]
-}
-
-fn word_room() -> [u32; 116508] {
-    [0; 116508]
 }
 
 fn report(t: Tally) {
@@ -73,11 +59,6 @@ fn report(t: Tally) {
     say(b", differences ", t.differences);
     say(b"; answered otherwise ", t.wrong);
     io::write_all(1, b"\n");
-}
-
-fn say(words: &[u8], n: u64) {
-    io::write_all(1, words);
-    io::print_decimal(1, n);
 }
 
 fn replay(words: &[u32], count: usize) -> Tally {
@@ -118,35 +99,17 @@ fn counted(t: Tally, op: u32, right: bool) -> Tally {
     }
 }
 
-fn more(n: u64, so: bool) -> u64 {
-    if so {
-        std::num::wrapping_add_u64(n, 1)
-    } else {
-        n
-    }
-}
-
-fn after(at: usize, n: usize) -> usize {
-    std::num::wrapping_add_usize(at, n)
-}
-
-fn size(words: &[u32], k: usize) -> usize {
-    word(words, k) as usize
-}
-
 fn one(words: &[u32], at: usize) -> Replayed {
     let q = asked(words, at);
-    let from = after(at, 14);
-    let upto = after(from, size(words, after(at, 13)));
-    let row = after(upto, 1);
-    let end = after(row, size(words, upto));
+    let marks = list(words, after(at, 13));
+    let row = list(words, marks.to);
     let mut sets = [0u16; 512];
-    let n = stored::narrow(part(words, from, upto), &mut sets);
-    answered(q, part(words, row, end), &sets[..n], words, end)
+    let n = stored::narrow(listed(words, marks), &mut sets);
+    answered(q, listed(words, row), &sets[..n], words, row.to)
 }
 
 fn asked(words: &[u32], at: usize) -> Question {
-    let t = test(word(words, after(at, 8)));
+    let t = verdict::test_of((word(words, after(at, 8)) % 256) as u8);
     Question {
         op: word(words, at),
         matcher: matcher(words, at),
@@ -161,33 +124,12 @@ fn asked(words: &[u32], at: usize) -> Question {
 }
 
 fn matcher(words: &[u32], at: usize) -> Matcher {
-    let table = table(word(words, after(at, 1)));
-    let settings = Settings {
-        table,
-        zwnj: word(words, after(at, 2)) == 1,
-        zwj: word(words, after(at, 3)) == 1,
-        syllables: word(words, after(at, 4)) == 1,
-    };
     verdict::matcher_of(
-        settings,
+        stored::settings_at(words, after(at, 1)),
         word(words, after(at, 7)) == 1,
         word(words, after(at, 5)),
         word(words, after(at, 6)),
     )
-}
-
-fn table(gpos: u32) -> Table {
-    if gpos == 1 { Table::Gpos } else { Table::Gsub }
-}
-
-fn test(n: u32) -> Test {
-    if n == 0 {
-        Test::Equal
-    } else if n == 1 {
-        Test::Any
-    } else {
-        Test::Nothing
-    }
 }
 
 fn answered(q: Question, row: &[u32], sets: &[u16], words: &[u32], k: usize) -> Replayed {

@@ -1,5 +1,6 @@
 pub mod Repair
 pub mod Run
+pub mod Numbers
 pub mod Rises
 pub mod Met
 pub mod Kept

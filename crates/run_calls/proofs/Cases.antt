@@ -9,7 +9,7 @@ use denote.Enum.Declared.{tagOf}
 use types.Run.{OneOf}
 use Rattle.matching.specs.declared.InputAnswer.{InputAnswer}
 use Rattle.matching.proofs.InputAnswer.{the-type}
-use Rattle.run_calls.specs.declared.RunRefusal.the-variants.{Match}
+use Rattle.run.specs.declared.RunRefusal.the-variants.{Match}
 use Rattle.run_calls.specs.declared.Checked.{Checked}
 use Rattle.run_calls.specs.Calls.{checkedPlaces}
 

@@ -31,9 +31,9 @@ use Rattle.run.specs.Run.{Run, Stage, opened, fromDone, movedLevel, mostAllowan
 use Rattle.run_positions.specs.declared.Slots.{Slots}
 use Rattle.run_positions.specs.Slots.{levelOf, shown, Neat}
 use Rattle.run_positions.specs.Laws.{level-shown, shown-neat}
-use Rattle.run_calls.specs.declared.RunRefusal.{RunRefusal}
-use Rattle.run_calls.specs.declared.RunRefusal.the-variants.{Shape, Cursor, Limits, Book, Match}
-use Rattle.run_calls.specs.declared.RunEnding.{RunEnding}
+use Rattle.run.specs.declared.RunRefusal.{RunRefusal}
+use Rattle.run.specs.declared.RunRefusal.the-variants.{Shape, Cursor, Limits, Book, Match}
+use Rattle.run.specs.declared.RunEnding.{RunEnding}
 use Rattle.run_calls.specs.declared.RunAnswer.{RunAnswer}
 use Rattle.run_calls.specs.declared.Checked.{Checked}
 use Rattle.run_cycle.specs.declared.Closed.{Closed}

@@ -8,7 +8,7 @@ use lib.Dec.{eqb, leb, ltb}
 use lib.ListN.{length, getD, take}
 use Rattle.glyph.specs.Glyph.{limit}
 use Rattle.glyph.specs.Sets.{oddSets}
-use Rattle.glyph.specs.Reply.{Reply}
+use Rattle.glyph.specs.Reply.{Reply, replies}
 use Rattle.text.specs.declared.Place.{Place}
 use Rattle.text.specs.Text.{Text, textOf, Holds, Clear, unfit, pastEnd}
 use Rattle.matching.specs.declared.InputAnswer.{InputAnswer}
@@ -22,9 +22,10 @@ use Rattle.run.specs.declared.Given.{Given}
 use Rattle.run.specs.Repair.{Level}
 use Rattle.run.specs.Run.{Run, Stage, runOn, movedLevel, mostAllowance, mostDepth}
 use Rattle.run.specs.Deeds.{ruled}
-use Rattle.run_calls.specs.declared.RunRefusal.{RunRefusal}
-use Rattle.run_calls.specs.declared.RunRefusal.the-variants.{Shape, Cursor, Limits, Book, Match}
-use Rattle.run_calls.specs.declared.RunEnding.{RunEnding}
+use Rattle.run.specs.Numbers.{endingNumber, runRefusalNumber}
+use Rattle.run.specs.declared.RunRefusal.{RunRefusal}
+use Rattle.run.specs.declared.RunRefusal.the-variants.{Shape, Cursor, Limits, Book, Match}
+use Rattle.run.specs.declared.RunEnding.{RunEnding}
 use Rattle.run_calls.specs.declared.RunAnswer.{RunAnswer}
 use Rattle.run_calls.specs.declared.Checked.{Checked}
 
@@ -119,26 +120,13 @@ Said h allowance depth done coming r = SaidBy (checkedAll h allowance depth) (ru
 
 -- ---- this paper's number and values of each answer; a run that is Finished has none, 0 is our choice
 
-abbrev pub endingNumber : Ending → ℕ
-endingNumber Finished = 0
-endingNumber Short = 8
-endingNumber Deep = 9
-endingNumber Full = 10
-
-abbrev pub runRefusalNumber : RunRefusal → ℕ
-runRefusalNumber Shape = 1
-runRefusalNumber Cursor = 2
-runRefusalNumber Limits = 12
-runRefusalNumber Book = 11
-runRefusalNumber Match = 7
-
 abbrev pub checkedNumber : Checked → Option ℕ
 checkedNumber Checked.Accepted = none
 checkedNumber (Checked.Refused why) = some (runRefusalNumber why)
 
 abbrev runReplyBy : RunEnding → List ℕ → Reply
-runReplyBy (RunEnding.Ended e) values = record { number = endingNumber e; values = values }
-runReplyBy (RunEnding.Refused why) values = record { number = runRefusalNumber why; values = [] }
+runReplyBy (RunEnding.Ended e) values = replies (endingNumber e) values
+runReplyBy (RunEnding.Refused why) values = replies (runRefusalNumber why) []
 
 -- spent, d, idx, the count and the positions; of a refusal the number alone
 abbrev pub runReply : RunAnswer → Reply

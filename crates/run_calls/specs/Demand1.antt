@@ -19,7 +19,8 @@ use Rattle.run.specs.Promises.{short-exactly}
 use Rattle.run.specs.Stops.{MetDepth, deep-exactly}
 use Rattle.run.specs.Full.{MetLimit, full-exactly}
 use Rattle.run_calls.specs.declared.Checked.{Checked}
-use Rattle.run_calls.specs.Calls.{SaidBy, endingNumber, Handed, checkedAll, runSays}
+use Rattle.run.specs.Numbers.{endingNumber}
+use Rattle.run_calls.specs.Calls.{SaidBy, Handed, checkedAll, runSays}
 use Rattle.run_calls.specs.Lines.{placesOf}
 use Rattle.run_calls.specs.Table as table
 use Rattle.run_calls.specs.Replies.{no-values, told-refused, told-ended}

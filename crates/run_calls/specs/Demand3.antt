@@ -10,7 +10,7 @@ use lib.Seq.{getD-take, length-take-le}
 use Rattle.glyph.specs.Glyph.{limit, glyphsOf}
 use Rattle.glyph.specs.Laws.{length-row}
 use Rattle.glyph.specs.Lossless.{Small}
-use Rattle.glyph.specs.Reply.{Reply}
+use Rattle.glyph.specs.Reply.{Reply, replies}
 use Rattle.text.specs.declared.Place.{Place}
 use Rattle.text.specs.Text.{Text, textOf, Fits}
 use Rattle.text.specs.Laws.{sizes}
@@ -26,12 +26,13 @@ use Rattle.run.specs.Repair.{Level}
 use Rattle.run.specs.Run.{Stage, runOn, movedLevel}
 use Rattle.run.specs.Deeds.{ruled}
 use Rattle.run.specs.Promises.{Alike, more-is-same, less-is-short, spent-within}
-use Rattle.run_calls.specs.declared.RunRefusal.{RunRefusal}
-use Rattle.run_calls.specs.declared.RunRefusal.the-variants.{Shape, Cursor, Limits, Book, Match}
-use Rattle.run_calls.specs.declared.RunEnding.{RunEnding}
+use Rattle.run.specs.declared.RunRefusal.{RunRefusal}
+use Rattle.run.specs.declared.RunRefusal.the-variants.{Shape, Cursor, Limits, Book, Match}
+use Rattle.run.specs.declared.RunEnding.{RunEnding}
 use Rattle.run_calls.specs.declared.RunAnswer.{RunAnswer}
 use Rattle.run_calls.specs.declared.Checked.{Checked}
-use Rattle.run_calls.specs.Calls.{SaidBy, RunLeaves, endingNumber, runRefusalNumber, runReply, Handed, checkedAll, runSays}
+use Rattle.run.specs.Numbers.{endingNumber, runRefusalNumber}
+use Rattle.run_calls.specs.Calls.{SaidBy, RunLeaves, runReply, Handed, checkedAll, runSays}
 use Rattle.run_calls.specs.Replies.{refused-reply, ended-number, endingBy, ending-back, told-refused}
 use Rattle.run_calls.specs.Decided.{run-decided}
 use Rattle.run_calls.specs.CallLaws.{said-whole as said-by}
@@ -148,7 +149,7 @@ module _ (h : Handed) where
           ended-number (l′ .answer) Short (w′ .ending ∙ ap RunEnding.Ended e)
 
 -- the number spent is the first value of a reply of 0
-spent-first : (r : RunAnswer) (e : RunEnding) (s : ℕ) (values : List ℕ) → r .ending ≡ e → runReply r ≡ record { number = 0; values = s ∷ values } → r .spent ≡ s
+spent-first : (r : RunAnswer) (e : RunEnding) (s : ℕ) (values : List ℕ) → r .ending ≡ e → runReply r ≡ replies 0 (s ∷ values) → r .spent ≡ s
 spent-first r (RunEnding.Ended e) s values q z = let w = ap (λ (x : Reply). x .values) (rw q at z) in cc
 spent-first r (RunEnding.Refused why) s values q z = absurd (refusal-not-0 why (ap (λ (x : Reply). x .number) (rw q at z)))
 

@@ -9,6 +9,7 @@ use Rattle.text.specs.Text.{Text, textOf}
 use Rattle.matching.specs.declared.InputAnswer.{InputAnswer}
 use Rattle.book.specs.Encode.{Narrow}
 use Rattle.run_calls.specs.declared.RunAnswer.{RunAnswer}
+use Rattle.glyph.specs.Reply.{replies}
 use Rattle.run_calls.specs.Calls.{Handed, Said, runReply}
 use Rattle.run_calls.specs.Lines.{RunShaped, CursorInside, Limited, Legible, placesOf, Usable}
 
@@ -65,7 +66,7 @@ abbrev pub leftNumber : Left → ℕ
 leftNumber l = runReply (l .answer) .number
 
 abbrev pub repliesAs : ℕ → List ℕ → Left → Type 0
-repliesAs number values l = runReply (l .answer) ≡ record { number = number; values = values }
+repliesAs number values l = runReply (l .answer) ≡ replies number values
 
 -- a call: what the contract says of it; and, which is no contract's to say but what their types hold, that the words of the rows afterwards have 32 bits and
 -- those of the book 16. Without it two rows that differ could be the same glyphs

@@ -9,18 +9,19 @@ use native.Mathlib.Omega.{arith}
 use borrow.Author.Tests.{eq-eqb}
 use lib.Dec.{eqb}
 use lib.ListN.{length}
-use Rattle.glyph.specs.Reply.{Reply}
+use Rattle.glyph.specs.Reply.{Reply, replies, numberIn, has-values, apart-by}
 use Rattle.run.specs.declared.Ending.{Ending}
 use Rattle.run.specs.declared.Ending.the-variants.{Finished, Short, Deep, Full}
 use Rattle.run.specs.Run.{Stage}
-use Rattle.run_calls.specs.declared.RunRefusal.{RunRefusal}
-use Rattle.run_calls.specs.declared.RunRefusal.the-variants.{Shape, Cursor, Limits, Book, Match}
-use Rattle.run_calls.specs.declared.RunEnding.{RunEnding}
+use Rattle.run.specs.declared.RunRefusal.{RunRefusal}
+use Rattle.run.specs.declared.RunRefusal.the-variants.{Shape, Cursor, Limits, Book, Match}
+use Rattle.run.specs.declared.RunEnding.{RunEnding}
 use Rattle.run_calls.specs.declared.RunAnswer.{RunAnswer}
 use Rattle.run_calls.specs.declared.Checked.{Checked}
-use Rattle.run_calls.specs.Calls.{SaidBy, RunLeaves, refusedBy, endingNumber, runRefusalNumber, checkedNumber, runReply}
+use Rattle.run.specs.Numbers.{endingNumber, runRefusalNumber}
+use Rattle.run_calls.specs.Calls.{SaidBy, RunLeaves, refusedBy, checkedNumber, runReply}
 
-pub refused-reply : (r : RunAnswer) (why : RunRefusal) → r ≡ refusedBy why → runReply r ≡ record { number = runRefusalNumber why; values = [] }
+pub refused-reply : (r : RunAnswer) (why : RunRefusal) → r ≡ refusedBy why → runReply r ≡ replies (runRefusalNumber why) []
 refused-reply r why q = rw q
 
 pub ended-number : (r : RunAnswer) (e : Ending) → r .ending ≡ RunEnding.Ended e → runReply r .number ≡ endingNumber e
@@ -54,15 +55,15 @@ refuses Match = refl
 -- ---- what a reply of a call tells
 
 -- an ending has values
-pub no-values : (v : Stage) (done coming : List ℕ) (r : RunAnswer) → RunLeaves v done coming r → (n : ℕ) → runReply r ≡ record { number = n; values = [] } → ⊥
-no-values v done coming r w n e = let none = ap (λ (x : Reply). length (x .values)) (rw (w .ending) at e) in omega arith
+pub no-values : (v : Stage) (done coming : List ℕ) (r : RunAnswer) → RunLeaves v done coming r → (n : ℕ) → runReply r ≡ replies n [] → ⊥
+no-values v done coming r w n e = has-values (rw (w .ending) at e)
 
 -- a number with no values is a refusal's
 pub told-refused : (k : Checked) (v : Stage) (done coming done′ coming′ : List ℕ) (r : RunAnswer) (n : ℕ) → SaidBy k v done coming done′ coming′ r
-    → (runReply r ≡ record { number = n; values = [] }) ↔ (checkedNumber k ≡ some n)
+    → (runReply r ≡ replies n []) ↔ (checkedNumber k ≡ some n)
 told-refused (Checked.Refused w) v done coming done′ coming′ r n s = (
-  λ e. ap some (ap (λ (x : Reply). x .number) (sym (refused-reply r w (s .0)) ∙ e)),
-  λ e. refused-reply r w (s .0) ∙ (λ j. record { number = Option·some-inj .0 e j; values = [] }),
+  λ e. ap some (ap numberIn (sym (refused-reply r w (s .0)) ∙ e)),
+  λ e. refused-reply r w (s .0) ∙ ap (λ (k : ℕ). replies k []) (Option·some-inj .0 e),
 )
 told-refused Checked.Accepted v done coming done′ coming′ r n s = (λ e. absurd (no-values v done′ coming′ r s n e), λ e. absurd (Option·none-ne-some n e))
 
@@ -71,8 +72,8 @@ pub told-ended : (k : Checked) (v : Stage) (done coming done′ coming′ : List
     → (runReply r .number ≡ endingNumber e) ↔ ((k ≡ Checked.Accepted) × (v .run .tally .ending ≡ e))
 told-ended (Checked.Refused w) v done coming done′ coming′ r e s = (
   λ z.
-      let same : runRefusalNumber w ≡ endingNumber e = ap (λ (x : Reply). x .number) (sym (refused-reply r w (s .0))) ∙ z in
-      absurd (true≢false (sym (ends e) ∙ ap isEnding (sym same) ∙ refuses w)),
+      let same : runRefusalNumber w ≡ endingNumber e = ap numberIn (sym (refused-reply r w (s .0))) ∙ z in
+      absurd (apart-by isEnding (endingNumber e) (runRefusalNumber w) (ends e) (refuses w) (sym same)),
   λ h. let o = h .0 in let z : _≡_ {A = ℕ} 0 1 = cc in absurd (omega arith),
 )
 told-ended Checked.Accepted v done coming done′ coming′ r e s = (

@@ -24,9 +24,10 @@ use Rattle.matching.specs.Take.{slots}
 use Rattle.book.specs.Book.{mostRecords, Reading, Reads, Unreadable, readBook, isRead}
 use Rattle.book.specs.Encode.{Narrow}
 use Rattle.book.specs.Only.{reads-exactly}
-use Rattle.run_calls.specs.declared.RunRefusal.the-variants.{Shape, Cursor, Limits, Book, Match}
+use Rattle.run.specs.declared.RunRefusal.the-variants.{Shape, Cursor, Limits, Book, Match}
 use Rattle.run_calls.specs.declared.Checked.{Checked}
-use Rattle.run_calls.specs.Calls.{badRecords, checkedFirst, checkedPlaces, checkedMatch, checkedAll, then, risesTo, goodPlaces, runRefusalNumber, checkedNumber, Handed}
+use Rattle.run.specs.Numbers.{runRefusalNumber}
+use Rattle.run_calls.specs.Calls.{badRecords, checkedFirst, checkedPlaces, checkedMatch, checkedAll, then, risesTo, goodPlaces, checkedNumber, Handed}
 use Rattle.run_calls.specs.Lines.{RunShaped, CursorInside, Limited, Legible, placesOf, Usable}
 use Rattle.run_calls.specs.Handed.{ShapedOf, runLines, Acceptable}
 use Rattle.run_calls.specs.CallLaws.{places-show}

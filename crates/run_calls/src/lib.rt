@@ -3,6 +3,8 @@ use matching::InputAnswer;
 use matching::InputMatch;
 use run::Ending;
 use run::Given;
+use run::RunEnding;
+use run::RunRefusal;
 use run_positions::Slots;
 use text::Place;
 ghost use mathlib.Core.Path.{_≡_};
@@ -22,24 +24,6 @@ ghost use Rattle.run.specs.Repair.{Sound};
 pub const MOST_ALLOWANCE: u32 = 2147483647;
 
 pub const MAX_NESTING_LEVEL: usize = 64;
-
-pub enum RunRefusal {
-    // Refusal 1.
-    Shape,
-    // Refusal 2.
-    Cursor,
-    // Refusal 12.
-    Limits,
-    // Refusal 11.
-    Book,
-    // Refusal 7.
-    Match,
-}
-
-pub enum RunEnding {
-    Ended(Ending),
-    Refused(RunRefusal),
-}
 
 // How the run ended, the lookups tried, where the text is parted, and the first level's positions; all 0 where it was refused.
 pub struct RunAnswer {
@@ -229,7 +213,7 @@ fn is_level(places: &[u16; 64], count: usize, end: usize, idx: usize) -> bool
     is_rising(places, count, end, idx)
 }
 
-// Whether the first `count` places rise from `low` on, all below the end.
+// Whether the first `count` places rise from `from` on, all below the end.
 fn is_rising(places: &[u16; 64], count: usize, end: usize, from: usize) -> bool
     requires { ⌜ (length (now places) ≡ 64) × (count ≤ 64) ⌝ }
     ensures { λ r. ⌜ r ≡ risesTo from end (take count (now (places .entry))) ⌝ }

@@ -15,7 +15,7 @@ use Rattle.book.specs.Book as book
 use Rattle.matching.specs.declared.InputMatch.{InputMatch}
 use Rattle.run.specs.declared.Given.{Given}
 use Rattle.run.specs.Run.{Stage}
-use Rattle.run_calls.specs.declared.RunRefusal.the-variants.{Shape}
+use Rattle.run.specs.declared.RunRefusal.the-variants.{Shape}
 use Rattle.run_calls.specs.declared.RunAnswer.{RunAnswer}
 use Rattle.run_calls.specs.declared.Checked.{Checked}
 use Rattle.run_calls.specs.Calls.{Handed, badRecords, checkedFirst, checkedAll, SaidBy, Said}

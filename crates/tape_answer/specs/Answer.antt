@@ -1,8 +1,8 @@
 -- The answer to a line: FF for no frame, else what input matching says of the frame's text with no mark sets (01, "The bench tape").
-use Prim.Native.Nat.{ℕ, _/_}
+use Prim.Native.Nat.{ℕ}
 use mathlib.Core.List.{List, []}
 use lib.ListN.{length}
-use Rattle.glyph.specs.Glyph.{words}
+use Rattle.glyph.specs.Glyph.{glyphsOf}
 use Rattle.verdict.specs.declared.Test.{Test}
 use Rattle.verdict.specs.Verdict.{valueBy}
 use Rattle.matching.specs.declared.Terms.{Terms}
@@ -18,7 +18,7 @@ frameTerms f = record { settings = f .settings; mask = f .mask; props = f .props
 -- every record of both rows counts, and a value matches an equal id
 unfoldable pub frameMatch : Frame → InputMatch
 frameMatch f =
-    inputOf (f .done) (length (f .done) / words) (f .coming) (length (f .coming) / words) (f .cursor) (frameTerms f) [] (valueBy Test.Equal []) (f .values)
+    inputOf (f .done) (length (glyphsOf (f .done))) (f .coming) (length (glyphsOf (f .coming))) (f .cursor) (frameTerms f) [] (valueBy Test.Equal []) (f .values)
 
 abbrev pub answerTo : LineRead → List ℕ
 answerTo (aFrame f) = answerBytes (inputReply (frameMatch f))

@@ -18,7 +18,7 @@ use Rattle.tape_answer.specs.Answer.{frameMatch, answerLine}
 use Rattle.tape_answer.specs.Asking.{asked}
 use Rattle.tape_frame.specs.Frame.{mostValues, mostGlyphs, LineRead, frameOf}
 use Rattle.tape_frame.specs.Decoding.{valuesOf, doneOf, comingOf, Decodes}
-use Rattle.tape_frame.specs.DecodingLaws.{FrameTold, told-bounded}
+use Rattle.tape_frame.specs.DecodingLaws.{FrameTold, frame-rows, told-bounded}
 use Rattle.tape_frame.specs.Line.{half}
 use Rattle.tape_answer.specs.Line.{halves, matchedBytes, answerBytes, withNewline}
 use Rattle.tape_frame.specs.Put.{put, front-put}
@@ -73,18 +73,19 @@ module _ (l : List ℕ) (h : Head) (t : FrameTold (frameOf l) h) where
   -- asking with what was stored is asking what the frame asks
   pub told-answer : (a : Decoded) (v v′ d d′ c c′ : List ℕ) → Decodes (frameOf l) a v v′ d d′ c c′
       → length v ≡ mostValues → length d ≡ words * mostGlyphs → length c ≡ words * mostGlyphs
-      → withNewline (answerBytes (inputReply (asked h (take (h .values) v′) (take (h .done) d′) (take (h .coming) c′)))) ≡ answerLine l
+      → withNewline (answerBytes (inputReply (asked h (take (h .values) v′) (take (words * h .done) d′) (take (words * h .coming) c′)))) ≡ answerLine l
   unfolding answerLine asked frameMatch
   told-answer a v v′ d d′ c c′ s lv ld lc =
       let f = t .frame in
       let b = told-bounded l h t in
       let nv : h .values ≡ length (f .values) = ap (λ (x : Head). x .values) (t .head) in
-      let nd : h .done ≡ length (f .done) = ap (λ (x : Head). x .done) (t .head) in
-      let nc : h .coming ≡ length (f .coming) = ap (λ (x : Head). x .coming) (t .head) in
+      let rows = frame-rows l f (t .is) in
+      let nd : words * h .done ≡ length (f .done) = ap (λ (x : Head). words * x .done) (t .head) ∙ sym (rows .0) in
+      let nc : words * h .coming ≡ length (f .coming) = ap (λ (x : Head). words * x .coming) (t .head) ∙ sym (rows .1) in
       let ev : take (h .values) v′ ≡ f .values =
       stored v v′ (f .values) (h .values) (s .values ∙ ap (λ (r : LineRead). put v 0 (valuesOf r)) (t .is)) nv (omega (arith, b .values)) in
-      let ed : take (h .done) d′ ≡ f .done =
-      stored d d′ (f .done) (h .done) (s .done ∙ ap (λ (r : LineRead). put d 0 (doneOf r)) (t .is)) nd (omega (arith, b .done)) in
-      let ec : take (h .coming) c′ ≡ f .coming =
-      stored c c′ (f .coming) (h .coming) (s .coming ∙ ap (λ (r : LineRead). put c 0 (comingOf r)) (t .is)) nc (omega (arith, b .coming)) in
+      let ed : take (words * h .done) d′ ≡ f .done =
+      stored d d′ (f .done) (words * h .done) (s .done ∙ ap (λ (r : LineRead). put d 0 (doneOf r)) (t .is)) nd (omega (arith, b .done)) in
+      let ec : take (words * h .coming) c′ ≡ f .coming =
+      stored c c′ (f .coming) (words * h .coming) (s .coming ∙ ap (λ (r : LineRead). put c 0 (comingOf r)) (t .is)) nc (omega (arith, b .coming)) in
       rw (ev, ed, ec, t .is, t .head)

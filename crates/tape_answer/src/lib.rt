@@ -1,7 +1,6 @@
 // The bench tape: its types and definitions, and an answer's digits.
 use matching::InputAnswer;
 use matching::InputMatch;
-use matching::Refusal;
 ghost use mathlib.Core.Path.{_≡_};
 ghost use mathlib.Core.List.{[], _∷_};
 ghost use Prim.Native.Nat.{_+_, _-_, _*_, _≤_, _<_, min};
@@ -14,7 +13,7 @@ ghost use Rattle.tape_frame.specs.Put.{put, Puts};
 ghost use Rattle.tape_answer.specs.Line.{mostAnswer, newline, halves, matchedBytes, answerBytes, withNewline};
 
 // The longest answer: 00, end, total and count, a position for each record of a row, and 0A.
-pub const MOST_ANSWER: usize = 13 + 4 * tape_frame::MOST_RECORDS;
+pub const MOST_ANSWER: usize = 13 + 4 * tape_frame::MOST_GLYPHS;
 
 // The bytes of a line that are kept: one more than the longest frame has tells that a line is longer.
 pub const MOST_KEPT: usize = tape_frame::MOST_DIGITS + 1;
@@ -127,17 +126,6 @@ fn put_matched(
     put_newline(out, at + 12 + 4 * n)
 }
 
-fn refusal_number(why: Refusal) -> u8
-    ensures { λ r. ⌜ r ≡ refusalNumber why ⌝ }
-{
-    match why {
-        Refusal::Shape => 1,
-        Refusal::Cursor => 2,
-        Refusal::Values => 3,
-        Refusal::Start => 6,
-    }
-}
-
 // As many positions as are counted and have a slot.
 fn counted(count: usize) -> usize
     ensures { λ r. ⌜ r ≡ min count slots ⌝ }
@@ -159,7 +147,7 @@ pub fn put_answer(out: &mut [u8], at: usize, m: InputMatch) -> usize
     let n = counted(m.count);
     match answer {
         InputAnswer::Matched { end, total } => put_matched(out, at, end, total, n, &positions),
-        InputAnswer::Refused(why) => put_number(out, at, refusal_number(why)),
+        InputAnswer::Refused(why) => put_number(out, at, matching::refusal_number(why)),
         InputAnswer::Lost(extent) => put_extent(out, at, extent),
         InputAnswer::Ligature => put_number(out, at, 5),
     }

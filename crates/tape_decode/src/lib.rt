@@ -86,10 +86,9 @@ fn read_whole(
     let n = head.values;
     let d = head.done;
     let c = head.coming;
-    let from = 20 + 4 * n;
-    tape_frame::fill(b, 16, n, values);
-    tape_frame::fill(b, from, d, done);
-    tape_frame::fill(b, from + 4 * d, c, coming);
+    tape_frame::fill(b, tape_frame::VALUES_AT, n, values);
+    tape_frame::fill(b, tape_frame::done_at(b), glyph::WORDS * d, done);
+    tape_frame::fill(b, tape_frame::coming_at(b), glyph::WORDS * c, coming);
     Decoded::Frame(head)
 }
 

@@ -10,8 +10,9 @@ use tape_frame::Decoded;
 use tape_frame::Head;
 use verdict::Test;
 ghost use mathlib.Core.Path.{_≡_};
-ghost use Prim.Native.Nat.{_+_, _-_, _≤_, _<_};
+ghost use Prim.Native.Nat.{_+_, _-_, _*_, _≤_, _<_};
 ghost use lib.ListN.{length, take, drop};
+ghost use Rattle.glyph.specs.Glyph.{words};
 ghost use Rattle.tape_frame.specs.Decoding.{Bounded};
 ghost use Rattle.tape_frame.specs.Put.{Puts};
 ghost use Rattle.tape_answer.specs.Answer.{answerLine};
@@ -30,7 +31,7 @@ fn ask(
     coming: &[u32; tape_frame::ROW],
 ) -> InputMatch
     requires { ⌜ Bounded h ⌝ }
-    ensures { λ r. ⌜ r ≡ asked h (take (h .values) (now (values .entry))) (take (h .done) (now (done .entry))) (take (h .coming) (now (coming .entry))) ⌝ }
+    ensures { λ r. ⌜ r ≡ asked h (take (h .values) (now (values .entry))) (take (words * h .done) (now (done .entry))) (take (words * h .coming) (now (coming .entry))) ⌝ }
 {
     let n = h.values;
     let d = h.done;
@@ -46,10 +47,10 @@ fn ask(
     let before = &done[..];
     let text = &coming[..];
     matching_calls::match_input(
-        &before[0..d],
-        d / glyph::WORDS,
-        &text[0..c],
-        c / glyph::WORDS,
+        &before[0..glyph::WORDS * d],
+        d,
+        &text[0..glyph::WORDS * c],
+        c,
         h.cursor,
         lookup,
         &sets,

@@ -6,7 +6,8 @@ use mathlib.Core.Bool.{Bool, true, false, cond}
 use native.Mathlib.Omega.{arith}
 use lib.ListN.{length, getD, drop, length-append}
 use lib.Seq.{drop-at, drop-drop}
-use Rattle.glyph.specs.Glyph.{words, Row}
+use Rattle.glyph.specs.Glyph.{words, Row, glyphsOf}
+use Rattle.glyph.specs.Laws.{length-row}
 use Rattle.verdict.specs.declared.Table.{Table}
 use Rattle.tape_frame.specs.Frame.{Frame, mostValues, mostGlyphs, aFrame, halfAt, wordAt, wordsAt, tableKind, settingsOf, valueCount, doneCount, comingCount, doneAt, comingAt, frameEnd, isWhole, frameIn, readBytes, frameOf}
 use Rattle.tape_frame.specs.FrameLaws.{keeps-whole, kindFor}
@@ -65,8 +66,8 @@ tag-size Table.Gpos = refl
 abbrev tail : Frame → List ℕ
 tail f =
     wordBytes (f .values)
-    ++ (half (length (f .done) / words)
-    ++ (half (length (f .coming) / words)
+    ++ (half (length (glyphsOf (f .done)))
+    ++ (half (length (glyphsOf (f .coming)))
     ++ (wordBytes (f .done) ++ wordBytes (f .coming))))
 
 below-opening : (f : Frame) → length (f .values) ≤ mostValues → Below 256 (openingBytes f)
@@ -87,8 +88,8 @@ unfolding frameBytes
 below-frame f h =
     below-append (below-opening f h)
     (below-append (below-words (f .values))
-    (below-append (below-half (length (f .done) / words))
-    (below-append (below-half (length (f .coming) / words))
+    (below-append (below-half (length (glyphsOf (f .done))))
+    (below-append (below-half (length (glyphsOf (f .coming))))
     (below-append (below-words (f .done)) (below-words (f .coming))))))
 
 -- after the opening's 16 bytes stands the rest
@@ -101,8 +102,8 @@ module _ (f : Frame) (w : FrameWithin f) where
   -- after the values stand the counts and the records
   abbrev counts : List ℕ
   counts =
-      half (length (f .done) / words)
-      ++ (half (length (f .coming) / words)
+      half (length (glyphsOf (f .done)))
+      ++ (half (length (glyphsOf (f .coming)))
       ++ (wordBytes (f .done) ++ wordBytes (f .coming)))
 
   drop-values : drop (16 + 4 * length (f .values)) (frameBytes f) ≡ counts
@@ -122,11 +123,11 @@ module _ (f : Frame) (w : FrameWithin f) where
       ∙ ap (drop (4 * n)) drop-counts
       ∙ drop-at (wordBytes (f .done)) (wordBytes (f .coming)) (4 * n) (length-wordBytes (f .done) ∙ ap (λ (k : ℕ). 4 * k) (sym e))
 
-  done-records : length (f .done) / words ≡ w .doneCount
-  done-records = omega (arith, w .doneRow)
+  done-records : length (glyphsOf (f .done)) ≡ w .doneCount
+  done-records = length-row (w .doneCount) (f .done) (w .doneRow)
 
-  coming-records : length (f .coming) / words ≡ w .comingCount
-  coming-records = omega (arith, w .comingRow)
+  coming-records : length (glyphsOf (f .coming)) ≡ w .comingCount
+  coming-records = length-row (w .comingCount) (f .coming) (w .comingRow)
 
   count-values : (t : Table) → f .settings .table ≡ t → valueCount (frameBytes f) ≡ length (f .values)
   unfolding frameBytes
@@ -152,7 +153,7 @@ module _ (f : Frame) (w : FrameWithin f) where
       rw values-counted
       (at-zero (frameBytes f) (16 + 4 * length (f .values))
       ∙ ap (λ (b : List ℕ). halfAt b 0) drop-values
-      ∙ half-back (length (f .done) / words) (omega (arith, done-records, w .doneFits))
+      ∙ half-back (length (glyphsOf (f .done))) (omega (arith, done-records, w .doneFits))
       ∙ done-records)
 
   coming-counted : comingCount (frameBytes f) ≡ w .comingCount
@@ -161,7 +162,7 @@ module _ (f : Frame) (w : FrameWithin f) where
       rw values-counted
       (half-on (frameBytes f) (16 + 4 * length (f .values)) 2
       ∙ ap (λ (b : List ℕ). halfAt b 2) drop-values
-      ∙ half-back (length (f .coming) / words) (omega (arith, coming-records, w .comingFits))
+      ∙ half-back (length (glyphsOf (f .coming))) (omega (arith, coming-records, w .comingFits))
       ∙ coming-records)
 
   frame-size : length (frameBytes f) ≡ frameEnd (frameBytes f)

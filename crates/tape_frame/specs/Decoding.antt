@@ -1,9 +1,9 @@
 -- The code's side: a frame as the code hands it on: its numbers in a head, its lists in three slices.
-use Prim.Native.Nat.{ℕ, _*_, _≤_}
+use Prim.Native.Nat.{ℕ, _≤_}
 use mathlib.Core.Path.{_≡_}
 use mathlib.Core.List.{List, []}
 use lib.ListN.{length}
-use Rattle.glyph.specs.Glyph.{words}
+use Rattle.glyph.specs.Glyph.{glyphsOf}
 use Rattle.tape_frame.specs.declared.Head.{Head}
 use Rattle.tape_frame.specs.declared.Decoded.{Decoded}
 use Rattle.tape_frame.specs.Frame.{Frame, LineRead, aFrame, notFrame, mostValues, mostGlyphs}
@@ -17,8 +17,8 @@ headOf f = record {
   props = f .props;
   cursor = f .cursor;
   values = length (f .values);
-  done = length (f .done);
-  coming = length (f .coming);
+  done = length (glyphsOf (f .done));
+  coming = length (glyphsOf (f .coming));
 }
 
 abbrev pub decoded : LineRead → Decoded
@@ -48,5 +48,5 @@ pub record Decodes (r : LineRead) (answer : Decoded) (v v′ d d′ c c′ : Lis
 -- the lists of a head keep the limits
 pub record Bounded (h : Head) : Type 0 where
   pub values : h .values ≤ mostValues
-  pub done : h .done ≤ words * mostGlyphs
-  pub coming : h .coming ≤ words * mostGlyphs
+  pub done : h .done ≤ mostGlyphs
+  pub coming : h .coming ≤ mostGlyphs

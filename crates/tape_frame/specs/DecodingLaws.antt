@@ -5,12 +5,14 @@ use mathlib.Core.Path.{_≡_, refl, sym, ap, _∙_}
 use mathlib.Core.List.{List}
 use mathlib.Core.Bool.{true}
 use native.Mathlib.Omega.{arith}
-use Rattle.glyph.specs.Glyph.{words}
+use lib.ListN.{length}
+use Rattle.glyph.specs.Glyph.{words, glyphsOf, Row}
+use Rattle.glyph.specs.Laws.{length-row}
 use Rattle.verdict.specs.declared.Table.{Table}
 use Rattle.tape_frame.specs.declared.Head.{Head}
 use Rattle.tape_frame.specs.declared.Decoded.{Decoded}
 use Rattle.tape_frame.specs.Digits.{bytesOf}
-use Rattle.tape_frame.specs.Frame.{Frame, LineRead, aFrame, notFrame, wordsAt, valueCount, doneCount, comingCount, doneAt, comingAt, isWhole, frameIn, frameOf}
+use Rattle.tape_frame.specs.Frame.{Frame, LineRead, aFrame, notFrame, wordsAt, valuesAt, valueCount, doneCount, comingCount, doneAt, comingAt, isWhole, frameIn, frameOf}
 use Rattle.tape_frame.specs.FrameLaws.{length-words, whole-keeps, frame-has}
 use Rattle.tape_frame.specs.Decoding.{headOf, decoded, Decodes, Bounded}
 use Rattle.tape_frame.specs.Put.{put-none}
@@ -21,8 +23,8 @@ head-bounded table b e =
     let k = whole-keeps b e in
     record {
       values = omega (arith, length-words (valueCount b) 16 b, k .values);
-      done = omega (arith, length-words (words * doneCount b) (doneAt b) b, k .done);
-      coming = omega (arith, length-words (words * comingCount b) (comingAt b) b, k .coming);
+      done = omega (arith, length-row (doneCount b) (frameIn table b .done) (length-words (words * doneCount b) (doneAt b) b), k .done);
+      coming = omega (arith, length-row (comingCount b) (frameIn table b .coming) (length-words (words * comingCount b) (comingAt b) b), k .coming);
     }
 
 -- no frame: nothing is stored
@@ -36,33 +38,41 @@ module _ (table : Table) (b : List ℕ) (h : Head) (e : h ≡ headOf (frameIn ta
   unfolding frameIn
   count-values = ap (λ (x : Head). x .values) e ∙ length-words (valueCount b) 16 b
 
-  count-done : h .done ≡ words * doneCount b
+  pub count-done : h .done ≡ doneCount b
   unfolding frameIn
-  count-done = ap (λ (x : Head). x .done) e ∙ length-words (words * doneCount b) (doneAt b) b
+  count-done = ap (λ (x : Head). x .done) e ∙ length-row (doneCount b) (frameIn table b .done) (length-words (words * doneCount b) (doneAt b) b)
 
-  count-coming : h .coming ≡ words * comingCount b
+  count-coming : h .coming ≡ comingCount b
   unfolding frameIn
-  count-coming = ap (λ (x : Head). x .coming) e ∙ length-words (words * comingCount b) (comingAt b) b
+  count-coming = ap (λ (x : Head). x .coming) e ∙ length-row (comingCount b) (frameIn table b .coming) (length-words (words * comingCount b) (comingAt b) b)
 
-  pub rows-values : wordsAt (h .values) 16 b ≡ frameIn table b .values
+  pub rows-values : wordsAt (h .values) valuesAt b ≡ frameIn table b .values
   unfolding frameIn
-  rows-values = ap (λ (n : ℕ). wordsAt n 16 b) count-values
+  rows-values = ap (λ (n : ℕ). wordsAt n valuesAt b) count-values
 
-  pub rows-done : wordsAt (h .done) (20 + 4 * h .values) b ≡ frameIn table b .done
+  pub rows-done : wordsAt (words * h .done) (doneAt b) b ≡ frameIn table b .done
   unfolding frameIn
-  rows-done =
-      let from : 20 + 4 * h .values ≡ doneAt b = omega (arith, count-values) in
-      ap (λ (n : ℕ). wordsAt n (20 + 4 * h .values) b) count-done ∙ ap (λ (n : ℕ). wordsAt (words * doneCount b) n b) from
+  rows-done = ap (λ (n : ℕ). wordsAt (words * n) (doneAt b) b) count-done
 
-  pub rows-coming : wordsAt (h .coming) (20 + 4 * h .values + 4 * h .done) b ≡ frameIn table b .coming
+  pub rows-coming : wordsAt (words * h .coming) (comingAt b) b ≡ frameIn table b .coming
   unfolding frameIn
-  rows-coming =
-      let from : 20 + 4 * h .values + 4 * h .done ≡ comingAt b = omega (arith, count-values, count-done) in
-      ap (λ (n : ℕ). wordsAt n (20 + 4 * h .values + 4 * h .done) b) count-coming
-      ∙ ap (λ (n : ℕ). wordsAt (words * comingCount b) n b) from
+  rows-coming = ap (λ (n : ℕ). wordsAt (words * n) (comingAt b) b) count-coming
 
 pub frame-bounded : (l : List ℕ) (f : Frame) → frameOf l ≡ aFrame f → Bounded (headOf f)
 frame-bounded l f h = let p = frame-has l f h in rw (p .same) (head-bounded (p .table) (bytesOf l) (p .full))
+
+-- a frame's rows are whole glyphs
+whole-row : (n at : ℕ) (b : List ℕ) → Row (length (glyphsOf (wordsAt (words * n) at b))) (wordsAt (words * n) at b)
+whole-row n at b =
+    let e = length-words (words * n) at b in
+    e ∙ ap (λ (k : ℕ). words * k) (sym (length-row n (wordsAt (words * n) at b) e))
+
+pub frame-rows : (l : List ℕ) (f : Frame) → frameOf l ≡ aFrame f → Row (length (glyphsOf (f .done))) (f .done) × Row (length (glyphsOf (f .coming))) (f .coming)
+unfolding frameIn
+frame-rows l f h =
+    let p = frame-has l f h in
+    let b = bytesOf l in
+    rw (p .same) (whole-row (doneCount b) (doneAt b) b, whole-row (comingCount b) (comingAt b) b)
 
 -- ---- what is known of a line by what it was decoded to
 

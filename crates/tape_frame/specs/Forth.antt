@@ -11,7 +11,8 @@ use lib.ListN.{length, getD, drop}
 use lib.Seq.{drop-cons, drop-length}
 use Rattle.bits.specs.Bits.{every}
 use Rattle.bits.specs.Laws.{every-at, and-left, and-right}
-use Rattle.glyph.specs.Glyph.{words}
+use Rattle.glyph.specs.Glyph.{words, glyphsOf}
+use Rattle.glyph.specs.Laws.{length-row}
 use Rattle.verdict.specs.declared.Table.{Table}
 use Rattle.tape_frame.specs.declared.Kind.{Kind}
 use Rattle.tape_frame.specs.Digits.{noDigit, digit, isDigit, spells, bytesOf}
@@ -239,8 +240,8 @@ module _ (t : Table) (b : List ℕ) (s : Below 256 b) (k : FrameLimits b) where
   frame-forth : tableKind b ≡ kindFor t → frameBytes (frameIn t b) ≡ b
   unfolding frameBytes frameIn
   frame-forth tag =
-      let d : length (frameIn t b .done) / words ≡ doneCount b = omega (arith, length-words (words * doneCount b) (doneAt b) b) in
-      let c : length (frameIn t b .coming) / words ≡ comingCount b = omega (arith, length-words (words * comingCount b) (comingAt b) b) in
+      let d : length (glyphsOf (frameIn t b .done)) ≡ doneCount b = length-row (doneCount b) (frameIn t b .done) (length-words (words * doneCount b) (doneAt b) b) in
+      let c : length (glyphsOf (frameIn t b .coming)) ≡ comingCount b = length-row (comingCount b) (frameIn t b .coming) (length-words (words * comingCount b) (comingAt b) b) in
       let o = openingBytes (frameIn t b) in
       let v = wordBytes (frameIn t b .values) in
       let r = wordBytes (frameIn t b .done) ++ wordBytes (frameIn t b .coming) in

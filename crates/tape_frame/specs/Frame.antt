@@ -27,7 +27,7 @@ pub data LineRead : Type 0 where
   aFrame : Frame → LineRead
   notFrame : LineRead
 
--- values, and records in each row, at most
+-- values, and glyphs in each row, at most: a record is a glyph
 abbrev pub mostValues : ℕ
 mostValues = 64
 
@@ -81,8 +81,11 @@ settingsOf table s = record { table = table; zwnj = bit 0 s; zwj = bit 1 s; syll
 abbrev pub valueCount : List ℕ → ℕ
 valueCount b = getD b 15 0
 
+abbrev pub valuesAt : ℕ
+valuesAt = 16
+
 abbrev pub countsAt : List ℕ → ℕ
-countsAt b = 16 + 4 * valueCount b
+countsAt b = valuesAt + 4 * valueCount b
 
 unfoldable pub doneCount : List ℕ → ℕ
 doneCount b = halfAt b (countsAt b)
@@ -113,7 +116,7 @@ frameIn table b = record {
   mask = wordAt b 5;
   props = wordAt b 9;
   cursor = halfAt b 13;
-  values = wordsAt (valueCount b) 16 b;
+  values = wordsAt (valueCount b) valuesAt b;
   done = wordsAt (words * doneCount b) (doneAt b) b;
   coming = wordsAt (words * comingCount b) (comingAt b) b;
 }

@@ -4,7 +4,7 @@ use mathlib.Core.List.{List, [], _∷_, _++_}
 use mathlib.Core.Bool.{cond}
 use lib.Dec.{ltb}
 use lib.ListN.{length}
-use Rattle.glyph.specs.Glyph.{words}
+use Rattle.glyph.specs.Glyph.{glyphsOf}
 use Rattle.verdict.specs.declared.Table.{Table}
 use Rattle.verdict.specs.declared.Settings.{Settings}
 use Rattle.tape_frame.specs.Frame.{Frame, gsub, gpos}
@@ -51,8 +51,8 @@ unfoldable pub frameBytes : Frame → List ℕ
 frameBytes f =
     openingBytes f
     ++ (wordBytes (f .values)
-    ++ (half (length (f .done) / words)
-    ++ (half (length (f .coming) / words)
+    ++ (half (length (glyphsOf (f .done)))
+    ++ (half (length (glyphsOf (f .coming)))
     ++ (wordBytes (f .done) ++ wordBytes (f .coming)))))
 
 unfoldable pub lineOf : Frame → List ℕ

@@ -4,22 +4,26 @@ use verdict::Table;
 ghost use mathlib.Core.Path.{_≡_};
 ghost use Prim.Native.Nat.{_+_, _*_, _≤_};
 ghost use lib.ListN.{length, getD};
-ghost use Rattle.tape_frame.specs.Frame.{halfAt, wordAt, wordsAt, opens, tableKind, settingsOf, valueCount, doneCount, comingCount, isWhole, frameIn};
+ghost use Rattle.glyph.specs.Glyph.{words};
+ghost use Rattle.tape_frame.specs.Frame.{halfAt, wordAt, wordsAt, opens, tableKind, settingsOf, valueCount, countsAt, doneCount, comingCount, doneAt, comingAt, isWhole, frameIn};
 ghost use Rattle.tape_frame.specs.Decoding.{headOf};
 ghost use Rattle.tape_frame.specs.Put.{put};
 
-// Values, and records in each row, at most.
+// Values, and glyphs in each row, at most: a record is a glyph.
 pub const MOST_VALUES: usize = 64;
 
-pub const MOST_RECORDS: usize = 64;
+pub const MOST_GLYPHS: usize = 64;
+
+// Where the values begin. After them stand the two counts, then the records.
+pub const VALUES_AT: usize = 16;
 
 // The longest frame's bytes and digits: everything but values and records is 20 bytes.
-pub const MOST_BYTES: usize = 20 + 4 * MOST_VALUES + 4 * glyph::WORDS * (2 * MOST_RECORDS);
+pub const MOST_BYTES: usize = 20 + 4 * MOST_VALUES + 4 * glyph::WORDS * (2 * MOST_GLYPHS);
 
 pub const MOST_DIGITS: usize = 2 * MOST_BYTES;
 
 // The words of a frame's row, at most.
-pub const ROW: usize = glyph::WORDS * MOST_RECORDS;
+pub const ROW: usize = glyph::WORDS * MOST_GLYPHS;
 
 // The table kind that an opening chooses.
 pub enum Kind {
@@ -28,7 +32,7 @@ pub enum Kind {
     Neither,
 }
 
-// A frame's numbers: what a lookup asks, the cursor, and how many words each of its lists has.
+// A frame's numbers: what a lookup asks, the cursor, how many values it has, and how many glyphs each row.
 pub struct Head {
     pub settings: Settings,
     pub mask: u32,
@@ -123,18 +127,35 @@ fn value_count(b: &[u8]) -> u8
     byte_at(b, 15)
 }
 
+fn counts_at(b: &[u8]) -> usize
+    ensures { λ r. ⌜ (r ≡ countsAt (now (b .entry))) × (r ≤ 1036) ⌝ }
+{
+    VALUES_AT + 4 * value_count(b) as usize
+}
+
 fn done_count(b: &[u8]) -> u16
     ensures { λ r. ⌜ r ≡ doneCount (now (b .entry)) ⌝ }
 {
-    let v = value_count(b) as usize;
-    half_at(b, 16 + 4 * v)
+    half_at(b, counts_at(b))
 }
 
 fn coming_count(b: &[u8]) -> u16
     ensures { λ r. ⌜ r ≡ comingCount (now (b .entry)) ⌝ }
 {
-    let v = value_count(b) as usize;
-    half_at(b, 16 + 4 * v + 2)
+    half_at(b, counts_at(b) + 2)
+}
+
+// Where done's records begin, and coming's.
+pub fn done_at(b: &[u8]) -> usize
+    ensures { λ r. ⌜ (r ≡ doneAt (now (b .entry))) × (r ≤ 1040) ⌝ }
+{
+    counts_at(b) + 4
+}
+
+pub fn coming_at(b: &[u8]) -> usize
+    ensures { λ r. ⌜ (r ≡ comingAt (now (b .entry))) × (r ≤ 1040 + 4 * (words * 65535)) ⌝ }
+{
+    done_at(b) + 4 * (glyph::WORDS * done_count(b) as usize)
 }
 
 // No other settings bits, the limits, and no byte too few or too many.
@@ -144,10 +165,10 @@ pub fn is_whole(b: &[u8]) -> bool
     let v = value_count(b) as usize;
     let d = done_count(b) as usize;
     let c = coming_count(b) as usize;
-    let end = 16 + 4 * v + 4 + 4 * (glyph::WORDS * d) + 4 * (glyph::WORDS * c);
+    let end = coming_at(b) + 4 * (glyph::WORDS * c);
     (byte_at(b, 4) < 8)
         & (v <= MOST_VALUES)
-        & ((d <= MOST_RECORDS) & (c <= MOST_RECORDS))
+        & ((d <= MOST_GLYPHS) & (c <= MOST_GLYPHS))
         & (b.len() == end)
 }
 
@@ -160,7 +181,7 @@ pub fn head_of(table: Table, b: &[u8]) -> Head
         props: word_at(b, 9),
         cursor: half_at(b, 13) as usize,
         values: value_count(b) as usize,
-        done: glyph::WORDS * done_count(b) as usize,
-        coming: glyph::WORDS * coming_count(b) as usize,
+        done: done_count(b) as usize,
+        coming: coming_count(b) as usize,
     }
 }

@@ -1,3 +1,4 @@
 pub mod Matcher
 pub mod Verdict
 pub mod Laws
+pub mod Numbers

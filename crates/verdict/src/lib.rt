@@ -1,6 +1,7 @@
 // What a lookup asks of the glyphs that it walks over, and what is answered of one: the types, their definitions, and the two matchers.
 ghost use mathlib.Core.Path.{_≡_};
 ghost use Rattle.verdict.specs.Matcher.{isGpos, matcherOf};
+ghost use Rattle.verdict.specs.Numbers.{tableOf, testOf};
 
 // The layout table that a lookup is of.
 pub enum Table {
@@ -91,5 +92,25 @@ pub fn matcher_of(settings: Settings, context: bool, mask: u32, props: u32) -> M
         zwj: settings.zwj,
         hidden: gpos,
         syllabic: !gpos & settings.syllables,
+    }
+}
+
+// ---- a table and a test by their numbers, as C and the stored lists have them
+
+pub fn table_of(gpos: bool) -> Table
+    ensures { λ r. ⌜ r ≡ tableOf gpos ⌝ }
+{
+    if gpos { Table::Gpos } else { Table::Gsub }
+}
+
+pub fn test_of(number: u8) -> Test
+    ensures { λ r. ⌜ r ≡ testOf number ⌝ }
+{
+    if number == 0 {
+        Test::Equal
+    } else if number == 1 {
+        Test::Any
+    } else {
+        Test::Nothing
     }
 }

@@ -7,7 +7,7 @@ use lib.Dec.{leb}
 use lib.ListN.{length, getD}
 use Rattle.glyph.specs.Glyph.{glyphsOf, blank, illShaped}
 use Rattle.glyph.specs.Sets.{oddSets}
-use Rattle.glyph.specs.Reply.{Reply}
+use Rattle.glyph.specs.Reply.{Reply, replies}
 use Rattle.verdict.specs.declared.Matcher.{Matcher}
 use Rattle.verdict.specs.declared.MaySkip.{MaySkip}
 use Rattle.verdict.specs.declared.MayMatch.{MayMatch}
@@ -38,10 +38,10 @@ askVerdict row place m sign syllable sets =
 -- ---- number and values of each case
 
 abbrev refusedBy1 : Reply
-refusedBy1 = record { number = 1; values = [] }
+refusedBy1 = replies 1 []
 
 abbrev answered : ℕ → Reply
-answered k = record { number = 0; values = k ∷ [] }
+answered k = replies 0 (k ∷ [])
 
 abbrev pub skipReply : SkipAnswer → Reply
 skipReply SkipAnswer.Refused = refusedBy1

@@ -6,7 +6,7 @@ use lib.Dec.{ltb}
 use lib.ListN.{length}
 use Rattle.glyph.specs.Glyph.{glyphsOf, illShaped}
 use Rattle.glyph.specs.Sets.{oddSets}
-use Rattle.glyph.specs.Reply.{Reply}
+use Rattle.glyph.specs.Reply.{Reply, replies}
 use Rattle.verdict.specs.declared.Matcher.{Matcher}
 use Rattle.verdict.specs.Verdict.{Asked, judgeAt}
 use Rattle.walk.specs.declared.Walked.{Walked}
@@ -29,7 +29,7 @@ backwardOf row place m asked syllable sets =
 
 -- number and values of each case; 01 gives found no number, 0 is our choice
 abbrev pub walkReply : Walked → Reply
-walkReply (Found p) = record { number = 0; values = p ∷ [] }
-walkReply (Stopped extent) = record { number = 4; values = extent ∷ [] }
-walkReply (RanOut extent) = record { number = 4; values = extent ∷ [] }
-walkReply Refused = record { number = 1; values = [] }
+walkReply (Found p) = replies 0 (p ∷ [])
+walkReply (Stopped extent) = replies 4 (extent ∷ [])
+walkReply (RanOut extent) = replies 4 (extent ∷ [])
+walkReply Refused = replies 1 []

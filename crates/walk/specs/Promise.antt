@@ -6,7 +6,7 @@ use mathlib.Core.List.{List, [], _∷_}
 use mathlib.Core.Logic.{_↔_, _⊎_}
 use lib.ListN.{length}
 use Rattle.glyph.specs.Glyph.{limit, Row, glyphsOf}
-use Rattle.glyph.specs.Reply.{Reply}
+use Rattle.glyph.specs.Reply.{Reply, replies}
 use Rattle.glyph.specs.Order.{Line, RefusedBy}
 use Rattle.verdict.specs.declared.Matcher.{Matcher}
 use Rattle.verdict.specs.declared.Verdict.{Verdict}
@@ -14,9 +14,6 @@ use Rattle.verdict.specs.Verdict.{Asked, judgeAt}
 use Rattle.walk.specs.declared.Walked.{Walked}
 use Rattle.walk.specs.Calls.{walkReply}
 use Rattle.walk.specs.Means.{Finds, Stops, RunsOut, FindsBack, StopsBack, RunsOutBack}
-
-abbrev pub replies : ℕ → List ℕ → Reply
-replies n vs = record { number = n; values = vs }
 
 -- what line 1 lets pass
 pub record Walkable (row : List ℕ) (len place : ℕ) (sets : List ℕ) : Type 0 where

@@ -21,7 +21,8 @@ use Rattle.walk.specs.declared.Walked.{Walked}
 use Rattle.walk.specs.declared.Walked.the-variants.{Found, Stopped, RanOut, Refused}
 use Rattle.walk.specs.Calls.{badWalk, forwardOf, backwardOf, walkReply}
 use Rattle.walk.specs.Means.{Means, MeansBack}
-use Rattle.walk.specs.Promise.{Walkable, replies, ForwardPromise, BackwardPromise}
+use Rattle.glyph.specs.Reply.{replies}
+use Rattle.walk.specs.Promise.{Walkable, ForwardPromise, BackwardPromise}
 use Rattle.walk.specs.Accepted.{forward-refused, backward-refused, forward-means, backward-means}
 
 walkable : (row : List ℕ) (len place : ℕ) (sets : List ℕ) → (badWalk row len place sets ≡ false) ↔ Walkable row len place sets

@@ -11,7 +11,7 @@ use lib.Dec.{eqb, ltb, leb}
 use lib.Bits.{bitAnd, bitXor, and-le-l, and-le-r, xor-mod, xor-shr, xor-zero-r, xor-self}
 use lib.ListN.{getD}
 use Rattle.bits.specs.Bits.{bit}
-use Rattle.bits.specs.Laws.{and-left, and-right, and-both, or-left, or-right, and-bit}
+use Rattle.bits.specs.Laws.{and-left, and-right, and-both, and-bit, or-mono, and-mono}
 use Rattle.glyph.specs.declared.Glyph.{Glyph}
 use Rattle.glyph.specs.Glyph.{blank}
 use Rattle.verdict.specs.Verdict.{ignoredClass, isMark, usesSet, classAsked, classOf, otherMark}
@@ -73,13 +73,6 @@ module _ (x : ℕ → ℕ) (a b all : ℕ) where
       by false w = let k = ltb-false i b w in let t : i ≡ b = omega arith in last (ap x t ∙ sym f)
 
 -- ---- what common bits tell
-
-or-mono : (a b c d : Bool) → (a ≡ true → c ≡ true) → (b ≡ true → d ≡ true) → (a || b) ≡ true → (c || d) ≡ true
-or-mono true b c d f g e = or-left c d (f refl)
-or-mono false b c d f g e = or-right c d (g e)
-
-and-mono : (a b c d : Bool) → (a ≡ true → c ≡ true) → (b ≡ true → d ≡ true) → (a && b) ≡ true → (c && d) ≡ true
-and-mono a b c d f g e = and-both c d (f (and-left a b e)) (g (and-right a b e))
 
 same : (a : Bool) → a ≡ true → a ≡ true
 same a e = e

@@ -13,7 +13,7 @@ use Rattle.glyph.specs.Glyph.{blank}
 use Rattle.glyph.specs.Sets.{inSet}
 use Rattle.glyph.specs.SetLaws.{pair-step, pair-end}
 use Rattle.digest.specs.declared.SetDigest.{SetDigest}
-use Rattle.digest.specs.Digest.{Bits, Says, bitsOf, place, allBits, added, mayHave}
+use Rattle.digest.specs.Digest.{Bits, Says, bitsOf, place, allSet, added, mayHave}
 use Rattle.digest.specs.Admitted.{admits-more, added-keeps, added-admits}
 use Rattle.verdict.specs.Verdict.{ignoredClass, isMark, usesSet, setNamed, otherMark}
 use Rattle.walk_stretch.specs.Stretch.{yesAt}
@@ -36,8 +36,8 @@ says-admits d f g h e =
     every-so (λ i. bitsOf d i (place i g)) 3
     (λ i l. h i (place i g) l (omega arith) ∙ every-at (λ i. f i (place i g)) 3 i e l)
 
-pub full-admits : (d : SetDigest) (sets : List ℕ) (s : ℕ) → Says d allBits → Admits d sets s
-full-admits d sets s h g e = says-admits d allBits g h (every-so (λ i. allBits i (place i g)) 3 (λ i l. refl))
+pub full-admits : (d : SetDigest) (sets : List ℕ) (s : ℕ) → Says d allSet → Admits d sets s
+full-admits d sets s h g e = says-admits d allSet g h (every-so (λ i. allSet i (place i g)) 3 (λ i l. refl))
 
 -- one more glyph leaves what was admitted
 pub add-admits : (d r : SetDigest) (x g : ℕ) → Says r (added x (bitsOf d)) → mayHave (bitsOf d) g ≡ true → mayHave (bitsOf r) g ≡ true

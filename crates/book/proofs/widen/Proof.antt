@@ -5,7 +5,7 @@ use native.Mathlib.Omega.{arith}
 use lib.ListN.{length}
 use lib.Seq.{paste, paste-zero}
 use Rattle.book.specs.Book.{mostSide}
-use Rattle.book.specs.Places.{zeros}
+use Rattle.bits.specs.Bits.{zeros}
 use Rattle.book.specs.Widened.{widen-more, widened-is}
 use Rattle.book.proofs.widen.Statement.{statement}
 use Rattle.book.proofs.widen.Tie as tie

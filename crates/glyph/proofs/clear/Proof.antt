@@ -4,7 +4,8 @@ use mathlib.Core.Path.{_≡_, refl, sym, ap, _∙_}
 use native.Mathlib.Omega.{arith}
 use lib.ListN.{length, length-set, set}
 use lib.Seq.{paste, paste-zero}
-use Rattle.glyph.specs.Glyph.{words, zeros, glyphsOf}
+use Rattle.bits.specs.Bits.{zeros}
+use Rattle.glyph.specs.Glyph.{words, glyphsOf}
 use Rattle.glyph.specs.Laws.{length-glyphsOf}
 use Rattle.glyph.specs.WriteLaws.{clear-more, cleared-glyphsOf}
 use Rattle.glyph.proofs.clear.Statement.{statement}

@@ -8,8 +8,8 @@ use borrow.Author.Needs.{needs}
 use Rattle.ligature.proofs.is_base_skipped.Statement.{statement}
 use Rattle.ligature.proofs.is_base_skipped.Tie as tie
 
-seek-base-requires : tie.Need-seek-base-requires
-seek-base-requires c κs = search needs
+find-base-requires : tie.Need-find-base-requires
+find-base-requires c κs = search needs
 
 enum-known-j : tie.Need-enum-known-j
 enum-known-j c = search needs
@@ -17,7 +17,7 @@ enum-known-j c = search needs
 read-requires : tie.Need-read-requires
 read-requires c κs = let a = c .before .before .before .before .before .before .args in
     let gs = glyphsOf (a .row .now) in
-    base-found (a .id) gs (length gs) (c .before .j .given .0 .0) .0 (sym (c .before .before .before .seek-base .ensures) ∙ c .before .j .given .1) .inside
+    base-found (a .id) gs (length gs) (c .before .j .given .0 .0) .0 (sym (c .before .before .before .find-base .ensures) ∙ c .before .j .given .1) .inside
 
 is-skip-yes-requires : tie.Need-is-skip-yes-requires
 is-skip-yes-requires c κs = search needs
@@ -27,17 +27,17 @@ enum-told c = search needs
 
 returns : tie.Need-returns
 unfolding baseSkips
-returns c = rw (← c .before .before .before .before .before .seek-base .ensures, c .before .before .before .j .given .1, ← c .before .read .ensures) (c .is-skip-yes .ensures)
+returns c = rw (← c .before .before .before .before .before .find-base .ensures, c .before .before .before .j .given .1, ← c .before .read .ensures) (c .is-skip-yes .ensures)
 
 returns-2 : tie.Need-returns-2
 unfolding baseSkips
-returns-2 c = rw (← c .before .before .seek-base .ensures, c .enum-told .given .1)
+returns-2 c = rw (← c .before .before .find-base .ensures, c .enum-told .given .1)
 
 pub is-base-skipped-spec : {M : Type 1} → statement M
 is-base-skipped-spec =
     tie.close
     (tie.spec
-    seek-base-requires
+    find-base-requires
     enum-known-j
     read-requires
     is-skip-yes-requires

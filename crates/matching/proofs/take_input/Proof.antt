@@ -21,7 +21,7 @@ use Rattle.walk.specs.Walk.{onVerdict, walkFrom}
 use Rattle.walk.specs.Steps.{walk-end}
 use Rattle.ligature.specs.declared.Ligbase.{Ligbase}
 use Rattle.matching.specs.declared.InputAnswer.{InputAnswer}
-use Rattle.matching.specs.Take.{ahead, Outcome, unlike, lost, having, followed, takes}
+use Rattle.matching.specs.Take.{ahead, Outcome, unlike, lost, having, onWalked, takes}
 use Rattle.ligature.specs.Ligature.{mayJoin, baseSkips}
 use Rattle.ligature.specs.Laws.{Known, looked-known, looked-serves}
 use Rattle.matching.specs.Matchers.{judge, joins, inputBy}
@@ -120,7 +120,7 @@ module _ (c : tie.In-loop Inv-loop μ-loop) where
 
   -- what the walk for the value that is due makes of the whole
   whole : (w : Walked) → walkFrom (on (getD values i 0)) (length gs) next ≡ w
-      → from (idx + 1) values ≡ having (going .qs) (followed ok w (λ q. from (q + 1) (drop (i + 1) values)))
+      → from (idx + 1) values ≡ having (going .qs) (onWalked ok w (λ q. from (q + 1) (drop (i + 1) values)))
   whole w e = turn gs on ok idx values (c .before .loop .positions) (c .before .loop .total) next i going due w e
 
 lose-requires : tie.Need-lose-requires Inv-loop μ-loop

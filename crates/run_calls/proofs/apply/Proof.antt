@@ -8,7 +8,7 @@ use Rattle.run.specs.Run.{begun, chainRun, movedLevel}
 use Rattle.run.specs.Deeds.{ruled}
 use Rattle.run_cycle.specs.Cycle.{level-neat}
 use Rattle.run_calls.specs.Calls.{runSays}
-use Rattle.run_calls.specs.declared.RunRefusal.the-variants.{Match}
+use Rattle.run.specs.declared.RunRefusal.the-variants.{Match}
 use Rattle.run_calls.specs.CallLaws.{said-refused, said-whole, match-bad, match-good, end-is, places-show, open-asks, level-sound, first-sound, whole-first}
 use Rattle.run_calls.proofs.Cases.{other}
 use borrow.Author.Needs.{needs}

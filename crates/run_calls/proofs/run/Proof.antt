@@ -2,7 +2,7 @@
 use mathlib.Core.Path.{_≡_, sym, ap, subst, _∙_}
 use borrow.Author.Tests.{not-true, not-false}
 use Rattle.book.specs.declared.Index.{Index}
-use Rattle.run_calls.specs.declared.RunRefusal.the-variants.{Book}
+use Rattle.run.specs.declared.RunRefusal.the-variants.{Book}
 use Rattle.book.specs.Starts.{index-reads}
 use Rattle.run_calls.specs.Calls.{Handed}
 use Rattle.run_calls.specs.CallLaws.{said-refused, said-same, all-first, all-book, all-match, first-shows, index-is}

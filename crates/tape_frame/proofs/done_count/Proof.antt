@@ -4,26 +4,15 @@ use borrow.Author.Needs.{needs}
 use Rattle.tape_frame.proofs.done_count.Statement.{statement}
 use Rattle.tape_frame.proofs.done_count.Tie as tie
 
-value-count-requires : tie.Need-value-count-requires
-value-count-requires c κs = search needs
-
-cast-v : tie.Need-cast-v
-cast-v c = search needs
-
-mul-half-at : tie.Need-mul-half-at
-mul-half-at c = search needs
-
-add-half-at : tie.Need-add-half-at
-add-half-at c = search needs
+counts-at-requires : tie.Need-counts-at-requires
+counts-at-requires c κs = search needs
 
 half-at-requires : tie.Need-half-at-requires
 half-at-requires c κs = search needs
 
 returns : tie.Need-returns
 unfolding doneCount
-returns c = rw (← c .before .value-count .ensures) (c .half-at .ensures)
+returns c = rw (← c .before .counts-at .ensures .0) (c .half-at .ensures)
 
 pub done-count-spec : {M : Type 1} → statement M
-done-count-spec =
-    tie.close
-    (tie.spec value-count-requires cast-v mul-half-at add-half-at half-at-requires returns)
+done-count-spec = tie.close (tie.spec counts-at-requires half-at-requires returns)

@@ -1,9 +1,10 @@
--- Each part is read where the definition reads it, and a list has as many words as are asked for. Assumes nothing.
+-- Each part is read where the definition reads it, and a row has as many glyphs as are counted. Assumes nothing.
 use mathlib.Core.Path.{_≡_, ap, _∙_}
 use Prim.Native.Nat.{_*_}
 use lib.ListN.{getD}
 use Rattle.glyph.specs.Glyph.{words}
-use Rattle.tape_frame.specs.Frame.{settingsOf, valueCount, doneCount, comingCount, doneAt, comingAt, frameIn}
+use Rattle.glyph.specs.Laws.{length-row}
+use Rattle.tape_frame.specs.Frame.{settingsOf, valuesAt, valueCount, doneCount, comingCount, doneAt, comingAt, frameIn}
 use Rattle.tape_frame.specs.FrameLaws.{length-words}
 use borrow.Author.Needs.{needs}
 use Rattle.tape_frame.proofs.head_of.Statement.{statement}
@@ -39,25 +40,20 @@ done-count-requires c κs = search needs
 cast-t12 : tie.Need-cast-t12
 cast-t12 c = search needs
 
-mul-t13 : tie.Need-mul-t13
-mul-t13 c = search needs
-
 coming-count-requires : tie.Need-coming-count-requires
 coming-count-requires c κs = search needs
 
-cast-t15 : tie.Need-cast-t15
-cast-t15 c = search needs
-
-mul-t16 : tie.Need-mul-t16
-mul-t16 c = search needs
+cast-t14 : tie.Need-cast-t14
+cast-t14 c = search needs
 
 returns : tie.Need-returns
 unfolding frameIn
 returns c =
+    let opening = c .before .before .before .before .before .before in
     let a = c .before .before .before .before .before .before .before .before .before .args in
     let b = a .b .now in
-    let settings : c .before .before .before .before .before .before .settings-of .result ≡ settingsOf (a .table) (getD b 4 0) =
-    c .before .before .before .before .before .before .settings-of .ensures ∙ ap (settingsOf (a .table)) (c .before .before .before .before .before .before .before .byte-at .ensures) in
+    let settings : opening .settings-of .result ≡ settingsOf (a .table) (getD b 4 0) =
+    opening .settings-of .ensures ∙ ap (settingsOf (a .table)) (opening .before .byte-at .ensures) in
     rw (
       settings,
       c .before .before .before .before .before .word-at .ensures,
@@ -66,9 +62,9 @@ returns c =
       c .before .before .value-count .ensures,
       c .before .done-count .ensures,
       c .coming-count .ensures,
-      length-words (valueCount b) 16 b,
-      length-words (words * doneCount b) (doneAt b) b,
-      length-words (words * comingCount b) (comingAt b) b,
+      length-words (valueCount b) valuesAt b,
+      length-row (doneCount b) (frameIn (a .table) b .done) (length-words (words * doneCount b) (doneAt b) b),
+      length-row (comingCount b) (frameIn (a .table) b .coming) (length-words (words * comingCount b) (comingAt b) b),
     )
 
 pub head-of-spec : {M : Type 1} → statement M
@@ -85,8 +81,6 @@ head-of-spec =
     cast-t10
     done-count-requires
     cast-t12
-    mul-t13
     coming-count-requires
-    cast-t15
-    mul-t16
+    cast-t14
     returns)

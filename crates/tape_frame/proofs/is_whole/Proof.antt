@@ -22,32 +22,17 @@ coming-count-requires c κs = search needs
 cast-c : tie.Need-cast-c
 cast-c c = search needs
 
+coming-at-requires : tie.Need-coming-at-requires
+coming-at-requires c κs = search needs
+
 mul-end : tie.Need-mul-end
 mul-end c = search needs
-
-add-end : tie.Need-add-end
-add-end c = search needs
-
-add-end-2 : tie.Need-add-end-2
-add-end-2 c = search needs
 
 mul-end-2 : tie.Need-mul-end-2
 mul-end-2 c = search needs
 
-mul-end-3 : tie.Need-mul-end-3
-mul-end-3 c = search needs
-
-add-end-3 : tie.Need-add-end-3
-add-end-3 c = search needs
-
-mul-end-4 : tie.Need-mul-end-4
-mul-end-4 c = search needs
-
-mul-end-5 : tie.Need-mul-end-5
-mul-end-5 c = search needs
-
-add-end-4 : tie.Need-add-end-4
-add-end-4 c = search needs
+add-end : tie.Need-add-end
+add-end c = search needs
 
 byte-at-requires : tie.Need-byte-at-requires
 byte-at-requires c κs = search needs
@@ -56,9 +41,10 @@ returns : tie.Need-returns
 unfolding isWhole
 returns c =
     rw (
-      ← c .before .before .before .value-count .ensures,
-      ← c .before .before .done-count .ensures,
-      ← c .before .coming-count .ensures,
+      c .before .coming-at .ensures .0,
+      ← c .before .before .before .before .value-count .ensures,
+      ← c .before .before .before .done-count .ensures,
+      ← c .before .before .coming-count .ensures,
       ← c .byte-at .ensures,
     )
 
@@ -72,14 +58,9 @@ is-whole-spec =
     cast-d
     coming-count-requires
     cast-c
+    coming-at-requires
     mul-end
-    add-end
-    add-end-2
     mul-end-2
-    mul-end-3
-    add-end-3
-    mul-end-4
-    mul-end-5
-    add-end-4
+    add-end
     byte-at-requires
     returns)

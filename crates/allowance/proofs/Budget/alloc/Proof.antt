@@ -11,9 +11,14 @@ use Rattle.allowance.proofs.Budget.alloc.Tie as tie
 exceeds-requires : tie.Need-exceeds-requires
 exceeds-requires c κs = search needs
 
+exhausted-requires : tie.Need-exhausted-requires
+exhausted-requires c κs = search needs
+
 returns : tie.Need-returns
-returns c = let a = c .before .before .args in
-    sym (allocated-past (a .self) (a .count) (a .size) (ltb-true (a .self .bytes) (a .count * a .size) (sym (c .before .exceeds .ensures) ∙ c .if1 .taken)))
+returns c =
+    let a = c .before .before .before .args in
+    let past = ltb-true (a .self .bytes) (a .count * a .size) (sym (c .before .before .exceeds .ensures) ∙ c .before .if1 .taken) in
+    c .exhausted .ensures ∙ sym (allocated-past (a .self) (a .count) (a .size) past)
 
 less-requires : tie.Need-less-requires
 less-requires c κs = let a = c .before .before .args in
@@ -25,4 +30,4 @@ returns-2 c = let a = c .before .before .before .args in
     ∙ sym (allocated-within (a .self) (a .count) (a .size) (ltb-false (a .self .bytes) (a .count * a .size) (sym (c .before .before .exceeds .ensures) ∙ c .before .if1 .left)) (c .less .ensures .1))
 
 pub alloc-spec : {M : Type 1} → statement M
-alloc-spec = tie.close (tie.spec exceeds-requires returns less-requires returns-2)
+alloc-spec = tie.close (tie.spec exceeds-requires exhausted-requires returns less-requires returns-2)

@@ -4,7 +4,7 @@ use denote.Ref.{now}
 use Rattle.allowance.specs.declared.Budget.{Budget}
 use Rattle.allowance.specs.declared.Charged.{Charged}
 use Rattle.allowance.specs.Allowance.{worked, allocated}
-use Rattle.desk_numbers.specs.Numbers.{wasTaken}
+use Rattle.allowance.specs.Allowance.{wasTaken}
 use Rattle.desk.specs.Allowances.{budgetOf, budgetWords}
 use borrow.Author.Needs.{needs}
 use Rattle.desk.proofs.allowances.cb_budget_alloc.Statement.{statement}
@@ -22,13 +22,13 @@ new-requires c κs = search needs
 alloc-requires : tie.Need-alloc-requires
 alloc-requires c κs = search needs
 
-taken-requires : tie.Need-taken-requires
-taken-requires c κs = search needs
+is-taken-requires : tie.Need-is-taken-requires
+is-taken-requires c κs = search needs
 
 returns : tie.Need-returns
 returns c = let e : c .before .before .before .alloc .result ≡ allocated (c .before .before .before .before .before .before .before .args .count) (c .before .before .before .before .before .before .before .args .size) (budgetOf (now (c .before .before .before .before .before .before .before .args .left))) =
     c .before .before .before .alloc .ensures ∙ ap (allocated (c .before .before .before .before .before .before .before .args .count) (c .before .before .before .before .before .before .before .args .size)) (c .before .before .before .before .new .ensures) in (
-      c .taken .ensures ∙ ap (λ (r : Charged). wasTaken (r .charge)) e,
+      c .is-taken .ensures ∙ ap (λ (r : Charged). wasTaken (r .charge)) e,
       ap (λ (r : Charged). budgetWords (r .left)) e,
     )
 
@@ -40,5 +40,5 @@ cb-budget-alloc-spec =
     element-copy-out-new-2
     new-requires
     alloc-requires
-    taken-requires
+    is-taken-requires
     returns)

@@ -4,7 +4,7 @@ use denote.Ref.{now}
 use Rattle.allowance.specs.declared.Budget.{Budget}
 use Rattle.allowance.specs.declared.Charged.{Charged}
 use Rattle.allowance.specs.Allowance.{worked, allocated}
-use Rattle.desk_numbers.specs.Numbers.{wasTaken}
+use Rattle.allowance.specs.Allowance.{wasTaken}
 use Rattle.desk.specs.Allowances.{budgetOf, budgetWords}
 use borrow.Author.Needs.{needs}
 use Rattle.desk.proofs.allowances.cb_budget_work.Statement.{statement}
@@ -22,13 +22,13 @@ new-requires c κs = search needs
 work-requires : tie.Need-work-requires
 work-requires c κs = search needs
 
-taken-requires : tie.Need-taken-requires
-taken-requires c κs = search needs
+is-taken-requires : tie.Need-is-taken-requires
+is-taken-requires c κs = search needs
 
 returns : tie.Need-returns
 returns c = let e : c .before .before .before .work .result ≡ worked (c .before .before .before .before .before .before .before .args .visits) (budgetOf (now (c .before .before .before .before .before .before .before .args .left))) =
     c .before .before .before .work .ensures ∙ ap (worked (c .before .before .before .before .before .before .before .args .visits)) (c .before .before .before .before .new .ensures) in (
-      c .taken .ensures ∙ ap (λ (r : Charged). wasTaken (r .charge)) e,
+      c .is-taken .ensures ∙ ap (λ (r : Charged). wasTaken (r .charge)) e,
       ap (λ (r : Charged). budgetWords (r .left)) e,
     )
 
@@ -40,5 +40,5 @@ cb-budget-work-spec =
     element-copy-out-new-2
     new-requires
     work-requires
-    taken-requires
+    is-taken-requires
     returns)

@@ -7,8 +7,8 @@ use Rattle.desk.proofs.matches.cb_match_input.Tie as tie
 asked-requires : tie.Need-asked-requires
 asked-requires c κs = search needs
 
-test-requires : tie.Need-test-requires
-test-requires c κs = search needs
+test-of-requires : tie.Need-test-of-requires
+test-of-requires c κs = search needs
 
 match-input-requires : tie.Need-match-input-requires
 match-input-requires c κs = search needs
@@ -17,9 +17,9 @@ input-told-requires : tie.Need-input-told-requires
 input-told-requires c κs = search needs
 
 returns : tie.Need-returns
-returns c = c .input-told .ensures ∙ rw (c .before .match-input .ensures, c .before .before .test .ensures, c .before .before .before .asked .ensures)
+returns c = c .input-told .ensures ∙ rw (c .before .match-input .ensures, c .before .before .test-of .ensures, c .before .before .before .asked .ensures)
 
 pub cb-match-input-spec : {M : Type 1} → statement M
 cb-match-input-spec =
     tie.close
-    (tie.spec asked-requires test-requires match-input-requires input-told-requires returns)
+    (tie.spec asked-requires test-of-requires match-input-requires input-told-requires returns)

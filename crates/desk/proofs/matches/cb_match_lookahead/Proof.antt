@@ -7,8 +7,8 @@ use Rattle.desk.proofs.matches.cb_match_lookahead.Tie as tie
 asked-requires : tie.Need-asked-requires
 asked-requires c κs = search needs
 
-test-requires : tie.Need-test-requires
-test-requires c κs = search needs
+test-of-requires : tie.Need-test-of-requires
+test-of-requires c κs = search needs
 
 match-lookahead-requires : tie.Need-match-lookahead-requires
 match-lookahead-requires c κs = search needs
@@ -17,9 +17,9 @@ context-told-requires : tie.Need-context-told-requires
 context-told-requires c κs = search needs
 
 returns : tie.Need-returns
-returns c = c .context-told .ensures ∙ rw (c .before .match-lookahead .ensures, c .before .before .test .ensures, c .before .before .before .asked .ensures)
+returns c = c .context-told .ensures ∙ rw (c .before .match-lookahead .ensures, c .before .before .test-of .ensures, c .before .before .before .asked .ensures)
 
 pub cb-match-lookahead-spec : {M : Type 1} → statement M
 cb-match-lookahead-spec =
     tie.close
-    (tie.spec asked-requires test-requires match-lookahead-requires context-told-requires returns)
+    (tie.spec asked-requires test-of-requires match-lookahead-requires context-told-requires returns)

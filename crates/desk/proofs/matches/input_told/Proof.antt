@@ -13,8 +13,8 @@ told-requires c κs = search needs
 enum-known-answer-2 : tie.Need-enum-known-answer-2
 enum-known-answer-2 c = search needs
 
-refusal-requires : tie.Need-refusal-requires
-refusal-requires c κs = search needs
+refusal-number-requires : tie.Need-refusal-number-requires
+refusal-number-requires c κs = search needs
 
 told-requires-2 : tie.Need-told-requires-2
 told-requires-2 c κs = search needs
@@ -35,7 +35,7 @@ returns : tie.Need-returns
 returns c = c .told .ensures ∙ rw (c .before .before .answer .given .1)
 
 returns-2 : tie.Need-returns-2
-returns-2 c = c .told2 .ensures ∙ rw (c .before .before .before .answer2 .given .1, c .before .refusal .ensures)
+returns-2 c = c .told2 .ensures ∙ rw (c .before .before .before .answer2 .given .1, c .before .refusal-number .ensures)
 
 returns-3 : tie.Need-returns-3
 returns-3 c = c .told3 .ensures ∙ rw (c .before .before .answer3 .given .1)
@@ -50,7 +50,7 @@ input-told-spec =
     enum-known-answer
     told-requires
     enum-known-answer-2
-    refusal-requires
+    refusal-number-requires
     told-requires-2
     enum-known-answer-3
     told-requires-3

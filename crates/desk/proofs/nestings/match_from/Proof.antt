@@ -3,11 +3,11 @@ use borrow.Author.Needs.{needs}
 use Rattle.desk.proofs.nestings.match_from.Statement.{statement}
 use Rattle.desk.proofs.nestings.match_from.Tie as tie
 
-success-requires : tie.Need-success-requires
-success-requires c κs = search needs
+answer-from-requires : tie.Need-answer-from-requires
+answer-from-requires c κs = search needs
 
 returns : tie.Need-returns
-returns c = rw (c .success .ensures)
+returns c = rw (c .answer-from .ensures)
 
 pub match-from-spec : {M : Type 1} → statement M
-match-from-spec = tie.close (tie.spec success-requires returns)
+match-from-spec = tie.close (tie.spec answer-from-requires returns)

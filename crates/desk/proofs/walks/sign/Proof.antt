@@ -3,11 +3,11 @@ use borrow.Author.Needs.{needs}
 use Rattle.desk.proofs.walks.sign.Statement.{statement}
 use Rattle.desk.proofs.walks.sign.Tie as tie
 
-test-requires : tie.Need-test-requires
-test-requires c κs = search needs
+test-of-requires : tie.Need-test-of-requires
+test-of-requires c κs = search needs
 
 returns : tie.Need-returns
-returns c = rw (c .test .ensures)
+returns c = rw (c .test-of .ensures)
 
 pub sign-spec : {M : Type 1} → statement M
-sign-spec = tie.close (tie.spec test-requires returns)
+sign-spec = tie.close (tie.spec test-of-requires returns)

@@ -8,7 +8,7 @@ use borrow.Author.Tests.{not-true}
 use Rattle.bits.specs.Bits.{bit, every, some}
 use Rattle.bits.specs.Laws.{every-not}
 use Rattle.digest.specs.Digest.{place}
-use Rattle.digest.proofs.Masks.{every-none, every-more, every-done}
+use Rattle.bits.specs.Laws.{every-none, every-more, every-done}
 use borrow.Author.Needs.{needs}
 use Rattle.digest.proofs.SetDigest.may_intersect.Statement.{statement}
 use Rattle.digest.proofs.SetDigest.may_intersect.Tie as tie
