@@ -29,6 +29,9 @@ mod refusal;
 mod runs;
 mod walks;
 
+/// The version of this crate, of include/conchibaru.h and of the library that they call: one number for the three.
+pub const VERSION: &str = env!("CARGO_PKG_VERSION");
+
 pub use budget::{Budget, Exhausted};
 pub use digests::{RuleSetDigest, SetDigest};
 pub use glyphs::{flags, lookup_flags, props, row, Glyph, LIMIT, WORDS};
