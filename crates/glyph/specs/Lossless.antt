@@ -1,13 +1,14 @@
 -- A glyph keeps all of its words: writing them back gives the row, so rows of the same glyphs are the same words.
--- And the words of a glyph are read as that glyph.
+-- And the words of a glyph are read as that glyph; those of blank glyphs are 0.
 use mathlib.Core.Path.{_≡_, refl, sym, ap, _∙_}
-use mathlib.Core.List.{List, [], _∷_, _++_}
+use mathlib.Core.List.{List, [], _∷_, _++_, append-assoc}
 use Prim.Native.Nat.{ℕ, zero, suc, _+_, _*_, _/_, _%_, _≤_, _<_}
 use native.Mathlib.Omega.{arith}
-use lib.ListN.{length, getD, take, drop, length-drop, take-append-drop}
+use lib.ListN.{length, getD, take, drop, replicate, length-drop, take-append-drop, replicate-append-replicate}
 use lib.Seq.{take-all, getD-take, getD-drop, length-take-le}
+use Rattle.bits.specs.Bits.{zeros}
 use Rattle.glyph.specs.declared.Glyph.{Glyph}
-use Rattle.glyph.specs.Glyph.{words, glyphOf, wordsOf, Fields, glyphsOf, Row}
+use Rattle.glyph.specs.Glyph.{words, glyphOf, wordsOf, Fields, glyphsOf, Row, blank}
 use Rattle.glyph.specs.Laws.{glyphsOf-nil, glyphsOf-cons, read-words}
 
 -- the words of a list of glyphs
@@ -69,3 +70,21 @@ row-back (suc n) w e h =
 -- rows of the same glyphs are the same
 pub same-row : (n : ℕ) (v w : List ℕ) → Row n v → Row n w → Small v → Small w → glyphsOf v ≡ glyphsOf w → v ≡ w
 same-row n v w a b h k e = sym (row-back n v a h) ∙ ap rowOf e ∙ row-back n w b k
+
+-- the words of two lists of glyphs, one after the other
+pub row-append : (gs hs : List Glyph) → rowOf (gs ++ hs) ≡ rowOf gs ++ rowOf hs
+unfolding rowOf
+row-append [] hs = refl
+row-append (g ∷ gs) hs = ap (λ (r : List ℕ). wordsOf g ++ r) (row-append gs hs) ∙ sym (append-assoc (wordsOf g) (rowOf gs) (rowOf hs))
+
+blank-words : wordsOf blank ≡ zeros words
+unfolding wordsOf blank
+blank-words = refl
+
+-- the words of blank glyphs are 0
+pub row-blank : (n : ℕ) → rowOf (replicate n blank) ≡ zeros (words * n)
+unfolding rowOf
+row-blank zero = refl
+row-blank (suc n) =
+    let e : words + words * n ≡ words * suc n = omega arith in
+    rw (blank-words, row-blank n) (replicate-append-replicate words (words * n) 0 ∙ ap zeros e)

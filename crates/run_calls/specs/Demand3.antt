@@ -35,9 +35,9 @@ use Rattle.run.specs.Numbers.{endingNumber, runRefusalNumber}
 use Rattle.run_calls.specs.Calls.{SaidBy, RunLeaves, runReply, Handed, checkedAll, runSays}
 use Rattle.run_calls.specs.Replies.{refused-reply, ended-number, endingBy, ending-back, told-refused}
 use Rattle.run_calls.specs.Decided.{run-decided}
-use Rattle.run_calls.specs.CallLaws.{said-whole as said-by}
+use Rattle.run_calls.specs.CallLaws.{said-whole}
 use Rattle.run_calls.specs.Lines.{Limited, Beyond, Legible, placesOf, Usable}
-use Rattle.run_calls.specs.Table.{refused, accepted, fits-of}
+use Rattle.run_calls.specs.Table.{refused, accepted, fits-of, leaves}
 use Rattle.run_calls.specs.Handed.{SameText, Left, leftNumber, repliesAs, textAfter, Called, Acceptable}
 
 -- the same number and values (spent, d, idx, the count, the positions), all 64 slots, the same text, and every word of both rows
@@ -105,10 +105,6 @@ module _ (h : Handed) where
       let s = accepted h a d w .0 e in
       accepted h a′ d′ w .1 (record { shaped = s .shaped; inside = s .inside; limited = l; legible = s .legible; usable = s .usable })
 
-  -- what is said of a call that is accepted
-  said-whole : (a d : ℕ) (l : Left) → Called h a d l → checkedAll h a d ≡ Checked.Accepted → RunLeaves (runSays h a d) (l .done) (l .coming) (l .answer)
-  said-whole a d l c e = subst (λ (k : Checked). SaidBy k (runSays h a d) (h .done) (h .coming) (l .done) (l .coming) (l .answer)) e (c .said)
-
   module _ (a d : ℕ) (l : Left) (c : Called h a d l) where
     module _ (z : leftNumber l ≡ 0) where
       ended : Ended0 (checkedAll h a d) (runSays h a d) (l .done) (l .coming) (l .answer)
@@ -116,7 +112,7 @@ module _ (h : Handed) where
 
       same-by : (a′ d′ : ℕ) (l′ : Left) → Called h a′ d′ l′ → a ≤ a′ → d ≤ d′ → Limited a′ d′ → SameLeft l l′
       same-by a′ d′ l′ c′ more deeper lim =
-          let w′ = said-whole a′ d′ l′ c′ (still-accepted (c .book-words) a d a′ d′ (ended .taken) lim) in
+          let w′ = leaves h a′ d′ l′ c′ (still-accepted (c .book-words) a d a′ d′ (ended .taken) lim) in
           let alike : Alike (runSays h a′ d′) (runSays h a d) =
           more-is-same (ruled (h .given) (h .sets)) (lookupsOf (h .book)) (recordsOf (h .records)) (first .positions) (first .end) t d d′ a a′ deeper more (ended .finished) in
           let s = run-decided Checked.Accepted (runSays h a d) (h .done) (h .coming) (l .done) (l .coming) (l .answer) (l′ .done) (l′ .coming) (l′ .answer)
@@ -144,7 +140,7 @@ module _ (h : Handed) where
           let some : a′ < runSays h a d .run .tally .spent = omega (arith, ended .whole .spent) in
           let few = spent-within rules book records (first .positions) (first .end) t d a in
           let lim = accepted h a d (c .book-words) .0 (ended .taken) .limited in
-          let w′ = said-whole a′ d l′ c′ (still-accepted (c .book-words) a d a′ d (ended .taken) (omega (arith, lim .0), lim .1)) in
+          let w′ = leaves h a′ d l′ c′ (still-accepted (c .book-words) a d a′ d (ended .taken) (omega (arith, lim .0), lim .1)) in
           let e : runSays h a′ d .run .tally .ending ≡ Short = less-is-short rules book records (first .positions) (first .end) t d a a′ (ended .finished) some in
           ended-number (l′ .answer) Short (w′ .ending ∙ ap RunEnding.Ended e)
 
@@ -235,7 +231,7 @@ handed-over h h′ s a d l c z =
     let k = accepted h a d (c .book-words) .0 (e .taken) in
     let w = subst Narrow (s .book) (c .book-words) in
     record {
-      said = said-by (checkedAll h′ a d) (runSays h′ a d) (h′ .done) (h′ .coming) (l .done) (l .coming) (l .answer) (accepted h′ a d w .1 (acceptable-too h h′ s a d k))
+      said = said-whole (checkedAll h′ a d) (runSays h′ a d) (h′ .done) (h′ .coming) (l .done) (l .coming) (l .answer) (accepted h′ a d w .1 (acceptable-too h h′ s a d k))
           (subst (λ (v : Stage). RunLeaves v (l .done) (l .coming) (l .answer)) (same-stage h h′ s a d k) (e .whole));
       done-words = c .done-words;
       coming-words = c .coming-words;

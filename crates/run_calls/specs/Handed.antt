@@ -1,10 +1,12 @@
 -- A call of a run, and what it leaves: what demands 1 and 3 are said of.
 use mathlib.Core.Path.{_≡_}
 use mathlib.Core.List.{List, [], _∷_}
+use mathlib.Core.Logic.{_⊎_}
 use Prim.Native.Nat.{ℕ}
 use lib.ListN.{length}
 use Rattle.glyph.specs.Lossless.{Small}
 use Rattle.glyph.specs.Order.{Line}
+use Rattle.text.specs.declared.Place.{Place}
 use Rattle.text.specs.Text.{Text, textOf}
 use Rattle.matching.specs.declared.InputAnswer.{InputAnswer}
 use Rattle.book.specs.Encode.{Narrow}
@@ -58,12 +60,19 @@ pub record Left : Type 0 where
   pub done : List ℕ
   pub coming : List ℕ
 
--- the text that it left in the rows
+-- where it left the rows parted, and the text that it left in them
+abbrev pub placeLeft : Left → Place
+placeLeft l = record { d = l .answer .d; idx = l .answer .idx }
+
 abbrev pub textAfter : Left → Text
-textAfter l = textOf (l .done) (l .coming) (record { d = l .answer .d; idx = l .answer .idx })
+textAfter l = textOf (l .done) (l .coming) (placeLeft l)
 
 abbrev pub leftNumber : Left → ℕ
 leftNumber l = runReply (l .answer) .number
+
+-- the number of a run that ended: Finished, Short, Deep or Full
+abbrev pub Ends : ℕ → Type 0
+Ends n = (n ≡ 0) ⊎ ((n ≡ 8) ⊎ ((n ≡ 9) ⊎ (n ≡ 10)))
 
 abbrev pub repliesAs : ℕ → List ℕ → Left → Type 0
 repliesAs number values l = runReply (l .answer) ≡ replies number values

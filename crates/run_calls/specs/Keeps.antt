@@ -26,12 +26,11 @@ use Rattle.run.specs.Chain.{chainBy}
 use Rattle.run.specs.Deeds.{ruled}
 use Rattle.run.specs.Drawn.{Drawn, Copied, Has, Steady, mask, mask-copied, run-drawn, drawn-has, drawn-steady}
 use Rattle.run.specs.Promises.{run-good}
-use Rattle.run_calls.specs.declared.Checked.{Checked}
 use Rattle.run_cycle.specs.Cycle.{book-fair}
-use Rattle.run_calls.specs.Calls.{SaidBy, RunLeaves, Handed, runSays}
+use Rattle.run_calls.specs.Calls.{RunLeaves, Handed, runSays}
 use Rattle.run_calls.specs.CallLaws.{places-show, moved-rise, index-is}
 use Rattle.run_calls.specs.Lines.{Usable, placesOf}
-use Rattle.run_calls.specs.Table.{good-by, reads, accepted, fits-of}
+use Rattle.run_calls.specs.Table.{good-by, reads, accepted, fits-of, leaves}
 use Rattle.run_calls.specs.Handed.{Left, textAfter, Called, Acceptable}
 use Rattle.matching.specs.Answers.{matchEnd}
 
@@ -75,7 +74,7 @@ module _ (h : Handed) where
         (fair-of (h .book) (h .given) (h .sets) (reads (h .book) (c .book-words) (k .legible))) d a (first-sound fits (k .usable)) (omega arith)
 
     whole : RunLeaves (runSays h a d) (l .done) (l .coming) (l .answer)
-    whole = subst (λ (k : Checked). SaidBy k (runSays h a d) (h .done) (h .coming) (l .done) (l .coming) (l .answer)) (accepted h a d (c .book-words) .1 k) (c .said)
+    whole = leaves h a d l c (accepted h a d (c .book-words) .1 k)
 
     -- the level that it leaves, over the text that it leaves
     level-sound : Sound (p .d) (length (textAfter l .glyphs)) (runSays h a d .level)

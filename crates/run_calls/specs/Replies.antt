@@ -2,7 +2,7 @@
 use mathlib.Core.Path.{_≡_, refl, sym, ap, _∙_}
 use mathlib.Core.Bool.{Bool, true, false, cond, true≢false}
 use mathlib.Core.List.{List, [], _∷_}
-use mathlib.Core.Logic.{_↔_}
+use mathlib.Core.Logic.{_↔_, inl, inr, ⊎-elim}
 use mathlib.Core.Option.{some, Option·some-inj, Option·none-ne-some}
 use Prim.Native.Nat.{ℕ}
 use native.Mathlib.Omega.{arith}
@@ -20,6 +20,7 @@ use Rattle.run_calls.specs.declared.RunAnswer.{RunAnswer}
 use Rattle.run_calls.specs.declared.Checked.{Checked}
 use Rattle.run.specs.Numbers.{endingNumber, runRefusalNumber}
 use Rattle.run_calls.specs.Calls.{SaidBy, RunLeaves, refusedBy, checkedNumber, runReply}
+use Rattle.run_calls.specs.Handed.{Ends}
 
 pub refused-reply : (r : RunAnswer) (why : RunRefusal) → r ≡ refusedBy why → runReply r ≡ replies (runRefusalNumber why) []
 refused-reply r why q = rw q
@@ -51,6 +52,19 @@ refuses Cursor = refl
 refuses Limits = refl
 refuses Book = refl
 refuses Match = refl
+
+-- an ending's number ends a run, and a refusal's doesn't
+pub ending-ends : (e : Ending) → Ends (endingNumber e)
+ending-ends Finished = inl refl
+ending-ends Short = inr (inl refl)
+ending-ends Deep = inr (inr (inl refl))
+ending-ends Full = inr (inr (inr refl))
+
+ends-tell : (n : ℕ) → Ends n → isEnding n ≡ true
+ends-tell n = ⊎-elim (ap isEnding) (⊎-elim (ap isEnding) (⊎-elim (ap isEnding) (ap isEnding)))
+
+pub refusal-not-end : (why : RunRefusal) → Ends (runRefusalNumber why) → ⊥
+refusal-not-end why e = true≢false (sym (ends-tell (runRefusalNumber why) e) ∙ refuses why)
 
 -- ---- what a reply of a call tells
 

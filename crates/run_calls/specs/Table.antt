@@ -1,6 +1,6 @@
 -- The run's refusals as 01's table has them ("When the desk says no"): the code's tests tell the lines 1, 2, 12, 11 and 7, so a call is refused by the first line that
 -- refuses, and accepted exactly when each lets pass (Order).
-use mathlib.Core.Path.{_≡_, refl, sym, ap, _∙_}
+use mathlib.Core.Path.{_≡_, refl, sym, ap, subst, _∙_}
 use mathlib.Core.Bool.{Bool, true, false, cond, not, _&&_, _||_, true≢false}
 use mathlib.Core.List.{List, [], _∷_}
 use mathlib.Core.Logic.{_↔_}
@@ -27,9 +27,10 @@ use Rattle.book.specs.Only.{reads-exactly}
 use Rattle.run.specs.declared.RunRefusal.the-variants.{Shape, Cursor, Limits, Book, Match}
 use Rattle.run_calls.specs.declared.Checked.{Checked}
 use Rattle.run.specs.Numbers.{runRefusalNumber}
-use Rattle.run_calls.specs.Calls.{badRecords, checkedFirst, checkedPlaces, checkedMatch, checkedAll, then, risesTo, goodPlaces, checkedNumber, Handed}
+use Rattle.run_calls.specs.Calls.{Handed, badRecords, checkedFirst, checkedPlaces, checkedMatch, checkedAll, then, risesTo, goodPlaces}
+use Rattle.run_calls.specs.Calls.{checkedNumber, SaidBy, RunLeaves, runSays}
 use Rattle.run_calls.specs.Lines.{RunShaped, CursorInside, Limited, Legible, placesOf, Usable}
-use Rattle.run_calls.specs.Handed.{ShapedOf, runLines, Acceptable}
+use Rattle.run_calls.specs.Handed.{ShapedOf, runLines, Acceptable, Left, Called}
 use Rattle.run_calls.specs.CallLaws.{places-show}
 use Rattle.run.specs.Run.{mostAllowance, mostDepth}
 
@@ -245,3 +246,7 @@ module _ (h : Handed) (allowance depth : ℕ) (w : Narrow (h .book)) where
 -- rows that line 1 and 2 let pass can hold a text
 pub fits-of : (h : Handed) → ShapedOf h → CursorInside (h .place) → Fits (h .done) (h .coming) (h .place)
 fits-of h s i = let u = s .text-inside in record { long = s .done-long; wide = s .coming-long; within = omega arith; room = omega arith }
+
+-- what a call leaves that is accepted
+pub leaves : (h : Handed) (a d : ℕ) (l : Left) → Called h a d l → checkedAll h a d ≡ Checked.Accepted → RunLeaves (runSays h a d) (l .done) (l .coming) (l .answer)
+leaves h a d l c e = subst (λ (k : Checked). SaidBy k (runSays h a d) (h .done) (h .coming) (l .done) (l .coming) (l .answer)) e (c .said)
