@@ -4,3 +4,4 @@ pub mod Walks
 pub mod Matches
 pub mod Runs
 pub mod Decided
+pub mod Demands

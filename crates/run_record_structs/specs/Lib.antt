@@ -1,3 +1,4 @@
 pub mod Records
 pub mod Laws
 pub mod AsWords
+pub mod Demands
