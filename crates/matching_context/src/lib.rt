@@ -99,22 +99,6 @@ fn first_or_none(row: &[u32], k: usize) -> &[u32]
     glyph::first(row, k)
 }
 
-// The row's choice, with one lifetime.
-fn choose_row<'a>(
-    table: Table,
-    done: &'a [u32],
-    d: usize,
-    coming: &'a [u32],
-    idx: usize,
-) -> &'a [u32]
-    ensures { λ r. ⌜ glyphsOf (now r) ≡ backwardRow table (glyphsOf (now (done .entry))) d (glyphsOf (now (coming .entry))) idx ⌝ }
-{
-    match table {
-        Table::Gsub => first_or_none(done, d),
-        Table::Gpos => first_or_none(coming, idx),
-    }
-}
-
 // The backward row, as a part of the row it stands in.
 pub fn backward_row<'d, 'c: 'd>(
     table: Table,
@@ -125,5 +109,8 @@ pub fn backward_row<'d, 'c: 'd>(
 ) -> &'d [u32]
     ensures { λ r. ⌜ glyphsOf (now r) ≡ backwardRow table (glyphsOf (now (done .entry))) d (glyphsOf (now (coming .entry))) idx ⌝ }
 {
-    choose_row(table, done, d, coming, idx)
+    match table {
+        Table::Gsub => first_or_none(done, d),
+        Table::Gpos => first_or_none(coming, idx),
+    }
 }
