@@ -17,8 +17,10 @@ use Rattle.matching.specs.Answers.{ligated}
 use Rattle.matching_calls.specs.Calls.{badText, inputFit, inputOf}
 use Rattle.glyph.specs.Write.{withId}
 use Rattle.book.specs.Book.{recordsOf, counted, bodyOf, firstOf, readLookups, readBook, lookupAt}
+use Rattle.book.specs.Encode.{pairsOf, encode, encodeAll}
 use Rattle.run.specs.Repair.{following, withGain, withLoss, grownBy, shrunkBy, repaired}
 use Rattle.run.specs.Run.{triedBy, recordsBy, closed, chainRun}
+use Rattle.run.specs.Chain.{chainMatch}
 use Rattle.run.specs.Deeds.{deedBy}
 use Rattle.run_calls.specs.Calls.{checkedFirst, checkedAll, risesTo}
 use Rattle.cards.specs.Card.{Card}
@@ -40,6 +42,7 @@ unfolding every some ranged masksOf bitsBelow wordsOf blank inSet inputMatcher c
 all-cards = refl
 
 pub all-examples : map given examples ≡ map wanted examples
-unfolding blank inSet inputMatcher contextMatcher matcherOf skipYes ignorable skipOf ruledOut matchOf verdict walk walkFrom walkBack takes
-    reached mayJoin baseBefore baseSkips inputBy inputOn aheadOn backOn ligated
+unfolding blank limit inSet inputMatcher contextMatcher matcherOf skipYes ignorable skipOf ruledOut matchOf verdict walk walkFrom walkBack takes
+    reached mayJoin baseBefore baseSkips inputBy inputOn aheadOn backOn ligated withId recordsOf counted bodyOf firstOf readLookups readBook lookupAt
+    pairsOf encode encodeAll following withGain withLoss grownBy shrunkBy repaired chainMatch deedBy triedBy recordsBy closed chainRun risesTo
 all-examples = refl

@@ -1,4 +1,5 @@
 -- Examples of our own beside the cards: lookahead, backtrack and the ligature rule on small texts, in the numbers and values of their replies.
+-- Those of runs, from RunExamples.antt, end the list.
 use mathlib.Core.Bool.{false}
 use mathlib.Core.List.{List, [], _∷_}
 use Prim.Native.Nat.{ℕ}
@@ -14,6 +15,7 @@ use Rattle.matching.specs.Take.{ahead, behind}
 use Rattle.matching.specs.Matchers.{inputOn, aheadOn, backOn}
 use Rattle.matching.specs.Answers.{inputTold, contextTold, inputReply, contextReply}
 use Rattle.cards.specs.Card.{Card}
+use Rattle.cards.specs.RunExamples.{runExamples}
 
 abbrev lookup : Table → ℕ → Terms
 lookup table props = record { settings = record { table = table; zwnj = false; zwj = false; syllables = false }; mask = 1; props = props }
@@ -81,4 +83,4 @@ examples =
     record { given = answersAfter Gsub [] (mark 7 1 0) (mark 8 2 1); wanted = says 5 [] } ∷
     record { given = answersAfter Gsub [] (letter 7) (mark 8 1 0); wanted = both } ∷
     record { given = answersAfter Gsub [] (mark 7 1 0) (mark 8 0 2); wanted = both } ∷
-    []
+    runExamples

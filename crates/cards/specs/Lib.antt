@@ -4,5 +4,6 @@ pub mod Matches
 pub mod Sums
 pub mod Runs
 pub mod Cards
+pub mod RunExamples
 pub mod Examples
 pub mod Check
