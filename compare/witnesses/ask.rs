@@ -47,12 +47,12 @@ fn tell(m: verdict::Matcher, first: &[u32], this: &[u32]) -> String {
 // ---- matches
 
 fn matcher(gpos: bool, zwnj: bool, zwj: bool, syllables: bool, context: bool, mask: u32, props: u32) -> verdict::Matcher {
-    let table = if gpos { verdict::Table::Gpos } else { verdict::Table::Gsub };
+    let table = verdict::table_of(gpos);
     verdict::matcher_of(verdict::Settings { table, zwnj, zwj, syllables }, context, mask, props)
 }
 
 fn terms(gpos: bool, zwnj: bool, zwj: bool, syllables: bool, mask: u32, props: u32) -> matching::Terms {
-    let table = if gpos { verdict::Table::Gpos } else { verdict::Table::Gsub };
+    let table = verdict::table_of(gpos);
     matching::Terms { settings: verdict::Settings { table, zwnj, zwj, syllables }, mask, props }
 }
 
@@ -134,6 +134,26 @@ fn run(
     ran(answer, before, rows)
 }
 
+fn run_of_structs(
+    mut rows: [Vec<u32>; 2],
+    d: usize,
+    idx: usize,
+    sets: &[u16],
+    book: &[u16],
+    records: &[u16],
+    m: matching::InputMatch,
+    given: run::Given,
+    allowance: u32,
+    depth: usize,
+) -> String {
+    let before = rows.clone();
+    let [done, coming] = &mut rows;
+    let record = |pair: &[u16]| run_record_structs::Record { sequence: pair[0], lookup: pair[1] };
+    let records: Vec<_> = records.chunks(2).map(record).collect();
+    let answer = run_record_structs::run(done, coming, d, idx, sets, book, &records, m, given, allowance, depth);
+    ran(answer, before, rows)
+}
+
 // A plain glyph is shown by its id, any other by its four words.
 fn ran(a: run_calls::RunAnswer, before: [Vec<u32>; 2], after: [Vec<u32>; 2]) -> String {
     let changed = if before == after { "no word" } else { "words" };
@@ -155,17 +175,18 @@ fn ran(a: run_calls::RunAnswer, before: [Vec<u32>; 2], after: [Vec<u32>; 2]) -> 
 
 // ---- the desk
 
-fn desk_run(coming: &[u32], book: &[u16], records: &[u16]) -> String {
+// A run as in K11, with the number of the match that is handed in.
+fn desk_run(coming: &[u32], book: &[u16], records: &[u16], number: u8, allowance: u32, depth: usize) -> String {
     let count = coming.len() / 4;
     let idx = 1024 - count;
     let mut positions = [0; 64];
     for (k, place) in (idx..1024).enumerate() {
         positions[k] = place as u16;
     }
-    let m = desk::matches::Matched { number: 0, total: 0, end: 1024, count, positions };
+    let m = desk::matches::Matched { number, total: 0, end: 1024, count, positions };
     let switches = desk::nestings::Switches { zwnj: false, zwj: false, syllables: false, mask: 1 };
     let (mut done, mut coming) = (vec![0; 4096], ends(coming, 4096));
-    let r = desk::nestings::cb_run(&mut done, &mut coming, 0, idx, &[], book, records, m, switches, 1, 1);
+    let r = desk::nestings::cb_run(&mut done, &mut coming, 0, idx, &[], book, records, m, switches, allowance, depth);
     format!("{}, spent {}, d {}, idx {}, {}", r.number, r.spent, r.d, r.idx, slots(r.count, r.positions))
 }
 

@@ -54,14 +54,82 @@ def terms(gpos=False, zwnj=False, zwj=False, syllables=False, mask=1, props=0):
     return call("terms", gpos, zwnj, zwj, syllables, mask, props)
 
 
+# ---- a glyph judged, a row walked
+
+EQUAL, ANY, NOTHING = "verdict::Test::Equal", "verdict::Test::Any", "verdict::Test::Nothing"
+
+
+def sign(test, value):
+    return f"verdict::Sign {{ test: {test}, value: {value} }}"
+
+
+def may_skip(g, place=0, sets=(), **asked):
+    """May the glyph g be skipped? Or the glyph at a place of the row that g begins and ends."""
+    return said(call("verdict_ask::ask_skip", row([g]), place, matcher(**asked), sets))
+
+
+def may_match(g, place=0, value=7, test=EQUAL, syllable=0, **asked):
+    return said(call("verdict_ask::ask_match", row([g]), place, matcher(**asked), sign(test, value), syllable))
+
+
+def verdict(g, place=0, value=7, test=EQUAL, syllable=0, sets=(), **asked):
+    return said(call("verdict_ask::ask_verdict", row([g]), place, matcher(**asked), sign(test, value), syllable, sets))
+
+
+def is_value(g, value=7, test=EQUAL):
+    return said(call("verdict_match::is_value", sign(test, value), [], call("glyph::read", row([g]), 0)))
+
+
+def forward(glyphs, place=0, len_=None, value=7, syllable=0, sets=(), **asked):
+    len_ = len(glyphs) if len_ is None else len_
+    return said(call("walk::forward", row(glyphs), len_, place, matcher(**asked), sign(EQUAL, value), syllable, sets))
+
+
+def forward_in_part(glyphs, value=7, **asked):
+    """Over a part of a row, from its first place on."""
+    return said(call("walk::forward_from", row(glyphs), len(glyphs), 0, matcher(**asked), sign(EQUAL, value), [], 0, []))
+
+
+def backward(glyphs, place, value=7, syllable=0, sets=(), **asked):
+    return said(call("walk::backward", row(glyphs), place, matcher(**asked), sign(EQUAL, value), syllable, sets))
+
+
+def mark(id, **more):
+    return glyph(id, props=MARK, **more)
+
+
+def nth(glyphs, n, place=0, value=7, **asked):
+    """A walker's match after n others."""
+    return said(call("walker::nth", row(glyphs), len(glyphs), place, n, matcher(**asked), sign(EQUAL, value), 0, []))
+
+
 # ---- matches
 
 
-def input(coming, values, done=(), d=None, len_=None, cursor=0, sets=(), test="Equal", **lookup):
+def text(coming, done, d, len_, cursor):
+    return row(done), len(done) if d is None else d, row(coming), len(coming) if len_ is None else len_, cursor
+
+
+def input(coming, values=(7,), done=(), d=None, len_=None, cursor=0, sets=(), **lookup):
     """Input matching, as in the cards: the values against the glyphs of `coming` after the cursor."""
-    d, len_ = len(done) if d is None else d, len(coming) if len_ is None else len_
-    text = row(done), d, row(coming), len_, cursor
-    return call("input", call("matching_calls::match_input", *text, terms(**lookup), sets, f"verdict::Test::{test}", values))
+    there = text(coming, done, d, len_, cursor)
+    return call("input", call("matching_calls::match_input", *there, terms(**lookup), sets, EQUAL, values))
+
+
+def lookahead(coming, start, values=(7,), done=(), d=None, len_=None, cursor=0, sets=(), **lookup):
+    there = text(coming, done, d, len_, cursor)
+    return said(call("matching_calls::match_lookahead", *there, start, terms(**lookup), sets, EQUAL, values))
+
+
+def backtrack(coming, values=(7,), done=(), d=None, len_=None, cursor=0, sets=(), **lookup):
+    there = text(coming, done, d, len_, cursor)
+    return said(call("matching_calls::match_backtrack", *there, terms(**lookup), sets, EQUAL, values))
+
+
+# Marks of two components of ligature 1, the ligature itself, and what input matching says of the marks where they may be taken together.
+MARKS_OF_TWO = [mark(5, lig=1, comp=1), mark(7, lig=1, comp=2)]
+BASE_OF_MARKS = glyph(2, props=LIGATURE, lig=1)
+MARKS_JOIN = "Matched { end: 2, total: 2 }, 2 at [0, 1]"
 
 
 def tell(first, this, **asked):
@@ -105,7 +173,7 @@ def chain(first, backtrack=(), input=(), lookahead=(), records=(), props=0):
 
 
 def run(coming, book, records, done=(), d=None, idx=None, places=None, count=None, end=LIMIT, answer="Matched {{ end: {}, total: 0 }}",
-        sets=(), allowance=1, depth=1, zwnj=False, zwj=False, syllables=False, mask=1, done_words=4096, coming_words=4096):
+        sets=(), allowance=1, depth=1, zwnj=False, zwj=False, syllables=False, mask=1, done_words=4096, coming_words=4096, how="run"):
     """A run as in K11: `coming` ends its row and is matched whole. A record is a pair, or else `records` are words."""
     d, idx = len(done) if d is None else d, LIMIT - len(coming) if idx is None else idx
     places = range(idx, LIMIT) if places is None else places
@@ -113,7 +181,7 @@ def run(coming, book, records, done=(), d=None, idx=None, places=None, count=Non
     words = [word for record in records for word in (record if isinstance(record, tuple) else [record])]
     m = call("matched", "matching::InputAnswer::" + answer.format(end), len(places) if count is None else count, places)
     given = f"run::Given {{ zwnj: {rust(zwnj)}, zwj: {rust(zwj)}, syllables: {rust(syllables)}, mask: {mask} }}"
-    return call("run", rows, d, idx, sets, book, words, m, given, allowance, depth)
+    return call(how, rows, d, idx, sets, book, words, m, given, allowance, depth)
 
 
 K11_BOOK = lookup(KIND_2, 2, 2, 2, 2)
@@ -121,6 +189,19 @@ K11_BOOK = lookup(KIND_2, 2, 2, 2, 2)
 
 def k11(coming=(1, 2, 3), book=K11_BOOK, records=((1, 0),), **other):
     return run(coming, book, records, **other)
+
+
+K11_ANSWER = "Finished, spent 1, d 4, idx 1024, 4 at [0, 1, 2, 3], text 1 2 2 3"
+
+
+def desk_k11(book=K11_BOOK, number=0, allowance=1, depth=1):
+    """The same by the desk, which says the answer's number."""
+    return call("desk_run", row([1, 2, 3]), book, [1, 0], number, allowance, depth)
+
+
+def structs_k11(coming=(1, 2, 3), book=K11_BOOK, records=((1, 0),), **other):
+    """The same with records as structs."""
+    return run(coming, book, records, how="run_of_structs", **other)
 
 
 def one_glyph(records=(), book=(), **other):
@@ -236,6 +317,187 @@ TABLE = {
             said("glyph::onward(&[5, 0, 0, 0, 7, 0, 0, 0], 1)"), "[7, 0, 0, 0]", "[0, 0, 0, 7, 0, 0, 0]",
         ),
     },
+    "verdict": {
+        "any_is_read_as_no_test": (may_match(9, test="verdict::test_of(1)"), "Said(Yes)", "Said(Maybe)"),
+        "gpos_is_read_as_gsub": (may_skip(glyph(9, flags=IGNORABLE + HIDDEN), gpos=True), "Said(Maybe)", "Said(No)"),
+        "hidden_is_ignored_under_gsub": (may_skip(glyph(9, flags=IGNORABLE + HIDDEN), context=True), "Said(No)", "Said(Maybe)"),
+        "syllables_are_tested_under_gpos": (
+            may_match(glyph(7, syllable=2), syllable=1, gpos=True, syllables=True, context=True), "Said(Yes)", "Said(No)",
+        ),
+        "the_context_matcher_has_the_lookup_mask": (may_match(glyph(7, mask=2), mask=1, context=True), "Said(Yes)", "Said(No)"),
+        "the_context_matcher_ignores_zwj_by_auto_zwj": (
+            may_skip(glyph(9, flags=IGNORABLE + ZWJ), zwj=False, context=True), "Said(Maybe)", "Said(No)",
+        ),
+        "the_context_matcher_ignores_zwnj_under_both_alone": (
+            may_skip(glyph(9, flags=IGNORABLE + ZWNJ), gpos=True, zwnj=False, context=True), "Said(Maybe)", "Said(No)",
+        ),
+        "the_input_matcher_has_all_mask_bits": (may_match(glyph(7, mask=2), mask=1), "Said(No)", "Said(Yes)"),
+        "the_input_matcher_ignores_hidden_under_gsub": (may_skip(glyph(9, flags=IGNORABLE + HIDDEN)), "Said(No)", "Said(Maybe)"),
+        "the_input_matcher_ignores_zwj_without_auto_zwj": (
+            may_skip(glyph(9, flags=IGNORABLE + ZWJ), zwnj=True, zwj=False), "Said(No)", "Said(Maybe)",
+        ),
+        "the_input_matcher_ignores_zwnj_by_auto_zwnj": (
+            may_skip(glyph(9, flags=IGNORABLE + ZWNJ), zwnj=True), "Said(No)", "Said(Maybe)",
+        ),
+        "the_input_matcher_tests_syllables_under_gpos": (
+            may_match(glyph(7, syllable=2), syllable=1, gpos=True, syllables=True), "Said(Yes)", "Said(No)",
+        ),
+    },
+    "verdict_skip": {
+        "a_base_is_skipped_as_another_mark": (may_skip(glyph(9, props=BASE), props=0x100), "Said(No)", "Said(Yes)"),
+        "bases_are_ignored_by_the_flag_for_ligatures": (may_skip(glyph(9, props=BASE), props=2), "Said(Yes)", "Said(No)"),
+        "class_zero_is_asked": (may_skip(glyph(9, props=MARK + 0x100)), "Said(No)", "Said(Yes)"),
+        "default_ignorables_are_not_ignorable": (may_skip(glyph(9, flags=IGNORABLE)), "Said(Maybe)", "Said(No)"),
+        "hidden_goes_by_zwj": (may_skip(glyph(9, flags=IGNORABLE + HIDDEN), zwj=True), "Said(No)", "Said(Maybe)"),
+        "ligatures_are_ignored_by_the_flag_for_marks": (may_skip(glyph(9, props=LIGATURE), props=4), "Said(Yes)", "Said(No)"),
+        "marks_are_ignored_by_the_flag_for_bases": (may_skip(mark(9), props=8), "Said(Yes)", "Said(No)"),
+        "marks_in_the_named_set_are_skipped": (may_skip(mark(9), props=0x30010, sets=(3, 9)), "Said(No)", "Said(Yes)"),
+        "marks_of_the_class_asked_are_skipped": (may_skip(glyph(9, props=MARK + 0x100), props=0x100), "Said(No)", "Said(Yes)"),
+        "the_class_is_asked_although_a_set_is_named": (may_skip(mark(8), props=0x30010, sets=(3, 9)), "Said(Yes)", "Said(No)"),
+        "the_low_half_of_the_props_names_the_set": (may_skip(mark(9), props=0x30010, sets=(3, 9)), "Said(No)", "Said(Yes)"),
+        "what_isnt_ignorable_is_skip_maybe": (may_skip(5), "Said(No)", "Said(Maybe)"),
+        "zwj_goes_by_zwnj": (may_skip(glyph(9, flags=IGNORABLE + ZWJ), zwj=True), "Said(Maybe)", "Said(No)"),
+        "zwnj_goes_by_zwj": (may_skip(glyph(9, flags=IGNORABLE + ZWNJ), zwj=True), "Said(No)", "Said(Maybe)"),
+    },
+    "verdict_match": {
+        "a_glyph_of_another_syllable_isnt_ruled_out": (
+            may_match(glyph(7, syllable=2), syllable=1, syllables=True), "Said(No)", "Said(Yes)",
+        ),
+        "a_maybe_is_taken_for_a_yes": (is_value(7, test=NOTHING), "false", "true"),
+        "a_maybe_that_fails_stops": (
+            input([5, glyph(9, flags=IGNORABLE), 7]), "Matched { end: 3, total: 2 }, 2 at [0, 2]", "Lost(2), 0 at []",
+        ),
+        "a_maybe_that_matches_is_passed_over": (
+            input([5, glyph(9, flags=IGNORABLE), 7], [9]), "Matched { end: 2, total: 2 }, 2 at [0, 1]", "Lost(3), 0 at []",
+        ),
+        "a_no_is_taken_for_a_yes": (is_value(9), "false", "true"),
+        "a_skip_yes_glyph_stops": (forward([5, mark(9), 7], props=8), "Found(2)", "Stopped(2)"),
+        "any_is_no_test": (may_match(9, test=ANY), "Said(Yes)", "Said(Maybe)"),
+        "no_test_is_a_yes": (may_match(7, test=NOTHING), "Said(Maybe)", "Said(Yes)"),
+        "syllable_zero_is_tested": (may_match(glyph(7, syllable=2), syllable=0, syllables=True), "Said(Yes)", "Said(No)"),
+        "syllables_are_tested_unasked": (may_match(glyph(7, syllable=2), syllable=1), "Said(Yes)", "Said(No)"),
+        "the_mask_is_compared_with_the_value": (may_match(7), "Said(Yes)", "Said(No)"),
+        "the_matchers_mask_isnt_looked_at": (may_match(glyph(7, mask=2), mask=1), "Said(No)", "Said(Yes)"),
+        "what_is_ruled_out_is_maybe": (may_match(glyph(7, mask=2), mask=1), "Said(No)", "Said(Maybe)"),
+    },
+    "verdict_ask": {
+        "a_place_at_the_rows_end_is_asked_about": (may_skip(5, place=1), "Refused", "stops"),
+        "a_stop_is_said_of_what_is_refused": (verdict(5, place=1), "Refused", "Said(NotMatch)"),
+        "an_ill_shaped_row_is_asked_about": (may_skip(glyph(5) + [0]), "Refused", "Said(No)"),
+        "may_match_is_asked_without_the_syllable": (
+            may_match(glyph(7, syllable=2), syllable=1, syllables=True), "Said(No)", "Said(Yes)",
+        ),
+        "no_match_is_said_of_what_is_refused": (may_match(5, place=1), "Refused", "Said(No)"),
+        "odd_mark_sets_are_taken": (may_skip(5, sets=(0,)), "Refused", "Said(No)"),
+        "skip_no_is_said_of_what_is_refused": (may_skip(5, place=1), "Refused", "Said(No)"),
+        "the_verdict_is_asked_without_the_syllable": (
+            verdict(glyph(7, syllable=2), syllable=1, syllables=True), "Said(NotMatch)", "Said(Match)",
+        ),
+    },
+    "walk_stretch": {
+        "a_base_is_outside_the_set": (
+            forward([5] + [mark(8)] * 16 + [5] + [mark(8)] * 7 + [7], props=0x30010, sets=(3, 9)), "Stopped(18)", "RanOut(26)",
+        ),
+        "a_block_has_the_bits_of_any_glyph": (
+            forward([5] + [mark(9)] * 7 + [5] + [mark(9)] * 16 + [7], props=8), "Stopped(9)", "Found(25)",
+        ),
+        "a_digest_is_of_the_other_sets": (
+            forward([5] + [mark(8)] * 8 + [mark(9)] * 16 + [7], props=0x30010, sets=(3, 9)), "Stopped(10)", "Found(25)",
+        ),
+        "a_long_walk_backward_begins_at_the_rows_start": (
+            backward([mark(9)] * 36 + [5] + [mark(9)] * 3, 40, props=8), "Stopped(35)", "RanOut(0)",
+        ),
+        "a_long_walk_forward_begins_at_the_rows_end": (
+            forward([5] + [mark(9)] * 3 + [5] + [mark(9)] * 36 + [7], props=8), "Stopped(5)", "Found(41)",
+        ),
+        "a_long_walk_has_half_the_sets": (
+            backward([7] + [mark(9)] * 24, 25, props=0x30010, sets=(3, 8, 3, 9)), "Stopped(23)", "Found(0)",
+        ),
+        "marks_of_the_class_asked_are_passed": (
+            forward([5] + [glyph(9, props=MARK + 0x100)] * 24 + [7], props=0x100), "Stopped(2)", "Found(25)",
+        ),
+        "the_last_glyph_of_a_block_isnt_looked_at": (
+            forward([5] + [mark(9)] * 7 + [5] + [mark(9)] * 16 + [7], props=8), "Stopped(9)", "Found(25)",
+        ),
+        "what_the_digest_admits_is_outside": (
+            forward([5] + [mark(9)] * 24 + [7], props=0x30010, sets=(3, 9)), "Stopped(2)", "Found(25)",
+        ),
+    },
+    "walk": {
+        "a_place_past_len_is_walked_from": (forward([5], place=1, len_=0), "Refused", "RanOut(2)"),
+        "a_stop_in_a_part_is_one_early": (forward_in_part([5]), "Stopped(1)", "Stopped(0)"),
+        "backward_forgets_the_starting_syllable": (
+            backward([glyph(7, syllable=2)], 1, syllable=1, syllables=True), "Stopped(0)", "Found(0)",
+        ),
+        "run_out_backward_the_extent_is_the_place": (backward([mark(9)], 1, props=8), "RanOut(0)", "RanOut(1)"),
+        "the_extent_backward_is_the_place": (backward([5, 5], 1), "Stopped(0)", "Stopped(1)"),
+        "the_extent_is_the_place_that_stopped": (forward([5, 5]), "Stopped(2)", "Stopped(1)"),
+        "the_extent_of_running_out_is_the_length": (forward([5], place=1), "RanOut(2)", "RanOut(1)"),
+        "the_first_tested_is_the_place_itself": (forward([7, 5]), "Stopped(2)", "Found(0)"),
+    },
+    "walker": {
+        "a_new_walker_stands_at_the_rows_start": CONTRACT,
+        "a_walker_that_was_stopped_goes_to_the_extent": (
+            said(f"walker::follow(walker::new({rust(row([5, 5]))}, 0), walk::Walked::Stopped(2)).place"), "0", "2",
+        ),
+        "follow_leaves_the_walker_where_it_stood": CONTRACT,
+        "next_walks_backward": CONTRACT,
+        "nth_leaves_out_a_step": (nth([5, 7, 7], 1), "Found(2)", "Found(1)"),
+        "nth_refuses_where_a_step_finds_none": (nth([5, 5], 1), "Stopped(2)", "Refused"),
+        "prev_walks_forward": CONTRACT,
+        "reset_leaves_the_walker_where_it_stood": CONTRACT,
+        "the_plain_step_walks_backward": CONTRACT,
+    },
+    "ligature": {
+        "a_base_that_is_not_skipped_will_do": (input(MARKS_OF_TWO, done=[BASE_OF_MARKS]), "Ligature, 0 at []", MARKS_JOIN),
+        "a_component_is_taken_for_the_base": (input(MARKS_OF_TWO, done=[BASE_OF_MARKS], props=4), MARKS_JOIN, "Ligature, 0 at []"),
+        "a_later_glyph_may_have_another_component": (input(MARKS_OF_TWO), "Ligature, 0 at []", MARKS_JOIN),
+        "an_attached_glyph_joins_a_first_of_no_ligature": (input([5, glyph(7, lig=1, comp=1)]), "Ligature, 0 at []", MARKS_JOIN),
+        "the_rows_first_glyph_is_taken_for_the_base": (
+            input(MARKS_OF_TWO, done=[2, BASE_OF_MARKS], props=4), MARKS_JOIN, "Ligature, 0 at []",
+        ),
+        "the_search_goes_past_another_id": (
+            input(MARKS_OF_TWO, done=[glyph(2, props=LIGATURE, lig=2)], props=4), "Ligature, 0 at []", MARKS_JOIN,
+        ),
+        "where_no_base_is_found_any_glyph_joins": (input(MARKS_OF_TWO), "Ligature, 0 at []", MARKS_JOIN),
+    },
+    "matching": {
+        "a_cursor_past_the_end_is_refused_by_1": (tape(frame([5], cursor=1)), "02", "01"),
+        "every_match_has_one_reply": (input([5, 7]), "Matched { end: 2, total: 2 }, 2 at [0, 1]", "Lost(1), 0 at [] and an unused slot filled"),
+        "number_4_is_taken_for_a_success": (
+            desk_k11(number=4), "7, spent 0, d 0, idx 0, 0 at []", "0, spent 1, d 4, idx 1024, 4 at [0, 1, 2, 3]",
+        ),
+        "the_cursor_glyph_is_tested": (input([5, 7]), "Matched { end: 2, total: 2 }, 2 at [0, 1]", "Lost(1), 0 at []"),
+        "the_end_is_the_texts": (
+            input([5, 7, 9]), "Matched { end: 2, total: 2 }, 2 at [0, 1]", "Matched { end: 3, total: 2 }, 2 at [0, 1]",
+        ),
+        "the_ligature_refusal_has_an_extent": (input(MARKS_OF_TWO), "Ligature, 0 at []", "Lost(2), 0 at []"),
+        "the_rule_is_asked_of_the_cursors_glyph": (input(MARKS_OF_TWO), "Ligature, 0 at []", MARKS_JOIN),
+        "the_total_forgets_the_cursors_count": (
+            input([5], []), "Matched { end: 1, total: 1 }, 1 at [0]", "Matched { end: 1, total: 0 }, 1 at [0]",
+        ),
+        "the_total_takes_the_cursors_count_in_ligation": (
+            input([glyph(5, count=2)], []), "Matched { end: 1, total: 2 }, 1 at [0]", "Matched { end: 1, total: 1 }, 1 at [0]",
+        ),
+    },
+    "matching_context": {
+        "backtrack_answers_how_many_values_matched": (backtrack([5], done=[7]), "Matched(0)", "Matched(1)"),
+        "backtrack_runs_out_with_an_extent_of_1": (backtrack([5]), "Lost(0)", "Lost(1)"),
+        "lookahead_starts_one_late": (lookahead([5, 7], 1), "Matched(2)", "Lost(2)"),
+        "the_backward_row_of_gpos_is_done": (backtrack([7, 5], cursor=1, gpos=True), "Matched(0)", "Lost(0)"),
+    },
+    "matching_calls": {
+        "a_start_of_1_is_refused_by_6": (lookahead([5, 7], 1), "Matched(2)", "Refused(Start)"),
+        "context_refuses_64_values": (backtrack([5], [7] * 64), "Lost(0)", "Refused(Values)"),
+        "everything_is_refused": (input([5, 7]), "Matched { end: 2, total: 2 }, 2 at [0, 1]", "Refused(Shape), 0 at []"),
+        "input_takes_64_values": (input([5], [7] * 64), "Refused(Values), 0 at []", "Lost(1), 0 at []"),
+        "slots_stay_filled_after_a_refusal": (
+            input([5], cursor=1), "Refused(Cursor), 0 at []", "Refused(Cursor), 0 at [] and an unused slot filled",
+        ),
+        "the_cursor_is_tested_before_the_shape": (
+            input([5], len_=2, cursor=2), "Refused(Shape), 0 at []", "Refused(Cursor), 0 at []",
+        ),
+    },
     "text": {
         "a_cursor_at_the_end_is_taken": (
             run([], [], [], places=[1024]), "refused for its Cursor, no word changed", "refused for its Match, no word changed",
@@ -267,7 +529,7 @@ TABLE = {
         ),
         "leaves_the_cursor_before_what_it_wrote": (
             k11(),
-            "Finished, spent 1, d 4, idx 1024, 4 at [0, 1, 2, 3], text 1 2 2 3",
+            K11_ANSWER,
             "Finished, spent 1, d 3, idx 1024, 3 at [0, 1, 2], text 1 2 3",
         ),
         "leaves_what_is_before_the_cursor": (
@@ -302,6 +564,148 @@ TABLE = {
         "a_book_of_4097_words_reads": (said(call("book_index::reads", chain(5, backtrack=[1] * 8) * 241)), "false", "true"),
         "a_slots_number_is_taken_for_its_start": (
             call("lookups", lookup(KIND_1, 6, 9) + lookup(KIND_1, 7, 8)), "props 0, 6 to 9; props 0, 7 to 8", "props 0, 6 to 9; missing",
+        ),
+    },
+    "run": {
+        "an_unreadable_book_is_refused_by_12": (
+            desk_k11(book=[0]), "11, spent 0, d 0, idx 0, 0 at []", "12, spent 0, d 0, idx 0, 0 at []",
+        ),
+        "deep_moves_to_the_end": (
+            k11(depth=0),
+            "Deep, spent 0, d 1, idx 1022, 3 at [0, 1, 2], text 1 2 3",
+            "Deep, spent 0, d 3, idx 1024, 3 at [0, 1, 2], text 1 2 3",
+        ),
+        "short_is_answered_as_9": (
+            desk_k11(allowance=0), "8, spent 0, d 3, idx 1024, 3 at [0, 1, 2]", "9, spent 0, d 3, idx 1024, 3 at [0, 1, 2]",
+        ),
+        "short_stays_where_it_stopped": (
+            k11(allowance=0),
+            "Short, spent 0, d 3, idx 1024, 3 at [0, 1, 2], text 1 2 3",
+            "Short, spent 0, d 1, idx 1022, 3 at [0, 1, 2], text 1 2 3",
+        ),
+    },
+    "run_positions": {
+        "a_level_stops_past_63": (
+            run([2] * 63, K11_BOOK, [(0, 0)]),
+            f"Finished, spent 1, d 64, idx 1024, 64 at {list(range(64))}, text of 64 glyphs",
+            f"Finished, spent 1, d 64, idx 1024, 63 at {list(range(63))}, text of 64 glyphs",
+        ),
+        "a_loss_drops_the_records_own_position": (
+            k11([1, 2, 9, 3], lookup(KIND_2, 2, 0), places=[1020, 1021, 1023]),
+            "Finished, spent 1, d 3, idx 1024, 2 at [0, 1], text 1 9 3",
+            "Finished, spent 1, d 3, idx 1024, 2 at [0, 2], text 1 9 3",
+        ),
+        "later_positions_rise_by_the_records_index": (
+            run([2, 3], K11_BOOK, [(0, 0)]),
+            "Finished, spent 1, d 3, idx 1024, 3 at [0, 1, 2], text 2 2 3",
+            "Finished, spent 1, d 3, idx 1024, 3 at [0, 1, 1], text 2 2 3",
+        ),
+        "the_end_goes_before_the_record": (
+            run([9, 2, 2], lookup(KIND_2, 2, 0), [(1, 0), (1, 0)], places=[1021, 1022], end=1023, allowance=2),
+            "Finished, spent 2, d 1, idx 1024, 2 at [0, 1], text 9",
+            "Finished, spent 2, d 0, idx 1023, 2 at [0, 1], text 9",
+        ),
+        "the_end_is_counted_in_coming": (
+            run([5] * 1023, [], [], places=[1], end=2),
+            "Finished, spent 0, d 1, idx 2, 1 at [0], text of 1023 glyphs",
+            "Finished, spent 0, d 2, idx 3, 1 at [0], text of 1023 glyphs",
+        ),
+    },
+    "run_chain_match": {
+        "a_chain_starts_lookahead_at_the_cursor": (
+            run([5, 6, 7], chain(5, input=[6], lookahead=[7], records=[(0, 1)]) + lookup(KIND_1, 5, 8), [(0, 0)], allowance=2, depth=2),
+            "Finished, spent 2, d 3, idx 1024, 3 at [0, 1, 2], text 8 6 7",
+            "Finished, spent 1, d 3, idx 1024, 3 at [0, 1, 2], text 5 6 7",
+        ),
+        "a_chain_takes_any_glyph_for_its_backtrack": (
+            run([5], chain(5, backtrack=[6], records=[(0, 1)]) + lookup(KIND_1, 5, 8), [(0, 0)], done=[9], allowance=2, depth=2),
+            "Finished, spent 1, d 2, idx 1024, 1 at [1], text 9 5",
+            "Finished, spent 2, d 2, idx 1024, 1 at [1], text 9 8",
+        ),
+        "a_chain_takes_any_glyph_for_its_first": (
+            run([9, 6], chain(5, input=[6], records=[(0, 1)]) + lookup(KIND_1, 9, 8), [(0, 0)], allowance=2, depth=2),
+            "Finished, spent 1, d 2, idx 1024, 2 at [0, 1], text 9 6",
+            "Finished, spent 2, d 2, idx 1024, 2 at [0, 1], text 8 6",
+        ),
+    },
+    "run_step": {
+        "a_stop_invents_the_number_spent": (
+            k11(depth=0),
+            "Deep, spent 0, d 1, idx 1022, 3 at [0, 1, 2], text 1 2 3",
+            "Deep, spent 1, d 1, idx 1022, 3 at [0, 1, 2], text 1 2 3",
+        ),
+        "a_try_spends_two": (
+            k11(),
+            K11_ANSWER,
+            "Finished, spent 2, d 4, idx 1024, 4 at [0, 1, 2, 3], text 1 2 2 3",
+        ),
+        "all_runs_are_short": (
+            k11(),
+            K11_ANSWER,
+            "Short, spent 0, d 3, idx 1024, 3 at [0, 1, 2], text 1 2 3",
+        ),
+        "full_writes_all_the_same": (
+            run([2] * 1024, K11_BOOK, [(0, 0)], places=[0], end=1),
+            "Full, spent 1, d 0, idx 0, 1 at [0], text of 1024 glyphs",
+            "Finished, spent 1, d 2, idx 1, 2 at [0, 1], text of 1025 glyphs",
+        ),
+        "kind_1_touches_nothing": (
+            run([1], lookup(KIND_1, 1, 2), [(0, 0)]),
+            "Finished, spent 1, d 1, idx 1024, 1 at [0], text 2",
+            "Finished, spent 1, d 1, idx 1024, 1 at [0], text 1",
+        ),
+        "no_allowance_is_answered_as_deep": (
+            k11(allowance=0, depth=0),
+            "Short, spent 0, d 3, idx 1024, 3 at [0, 1, 2], text 1 2 3",
+            "Deep, spent 0, d 1, idx 1022, 3 at [0, 1, 2], text 1 2 3",
+        ),
+        "short_counts_as_finished": (
+            k11(allowance=0),
+            "Short, spent 0, d 3, idx 1024, 3 at [0, 1, 2], text 1 2 3",
+            "Finished, spent 0, d 3, idx 1024, 3 at [0, 1, 2], text 1 2 3",
+        ),
+    },
+    "run_cycle": {
+        "a_chain_that_matches_does_nothing": (
+            run([5, 6], chain(5, records=[(0, 1)]) + lookup(KIND_1, 5, 9), [(0, 0)], allowance=2, depth=2),
+            "Finished, spent 2, d 2, idx 1024, 2 at [0, 1], text 9 6",
+            "Finished, spent 1, d 2, idx 1024, 2 at [0, 1], text 5 6",
+        ),
+        "all_records_count_as_done_after_the_first": (
+            run([1, 1], lookup(KIND_1, 1, 2), [(0, 0), (1, 0)], allowance=2),
+            "Finished, spent 2, d 2, idx 1024, 2 at [0, 1], text 2 2",
+            "Finished, spent 1, d 2, idx 1024, 2 at [0, 1], text 2 1",
+        ),
+        "positions_are_not_repaired": (
+            k11(),
+            K11_ANSWER,
+            "Finished, spent 1, d 3, idx 1023, 3 at [0, 1, 2], text 1 2 2 3",
+        ),
+    },
+    "run_calls": {
+        "a_depth_of_65_is_run": (k11(depth=65), "refused for its Limits, no word changed", K11_ANSWER),
+        "an_allowance_of_2147483648_is_run": (k11(allowance=2147483648), "refused for its Limits, no word changed", K11_ANSWER),
+        "an_unreadable_book_is_a_bad_match": (
+            k11(book=[0]), "refused for its Book, no word changed", "refused for its Match, no word changed",
+        ),
+        "cells_outside_are_not_cleared": (
+            k11(),
+            K11_ANSWER,
+            f"Finished, spent 1, d 4, idx 1024, 4 at [0, 1, 2, 3], text {' '.join(['[0, 0, 0, 0]'] * 4)}, cells left",
+        ),
+    },
+    "run_record_structs": {
+        "no_record_is_run": (structs_k11(), K11_ANSWER, "Finished, spent 0, d 3, idx 1024, 3 at [0, 1, 2], text 1 2 3"),
+        "sequence_and_lookup_are_swapped": (structs_k11(), K11_ANSWER, "Finished, spent 1, d 3, idx 1024, 3 at [0, 1, 2], text 1 2 3"),
+        "seventeen_records_are_accepted": (
+            structs_k11(records=[(1, 0)] * 17, allowance=17),
+            "refused for its Shape, no word changed",
+            f"Finished, spent 16, d 19, idx 1024, 19 at {list(range(19))}, text of 19 glyphs",
+        ),
+        "the_first_record_is_forgotten": (
+            structs_k11([1, 1], lookup(KIND_1, 1, 2), [(0, 0), (1, 0)], allowance=2),
+            "Finished, spent 2, d 2, idx 1024, 2 at [0, 1], text 2 2",
+            "Finished, spent 1, d 2, idx 1024, 2 at [0, 1], text 1 2",
         ),
     },
     "tape_frame": {
@@ -363,7 +767,7 @@ TABLE = {
     },
     "desk": {
         "a_run_answers_d_for_idx": (
-            call("desk_run", row([1, 2, 3]), K11_BOOK, [1, 0]), "0, spent 1, d 4, idx 1024, 4 at [0, 1, 2, 3]", "0, spent 1, d 4, idx 4, 4 at [0, 1, 2, 3]",
+            desk_k11(), "0, spent 1, d 4, idx 1024, 4 at [0, 1, 2, 3]", "0, spent 1, d 4, idx 4, 4 at [0, 1, 2, 3]",
         ),
         "a_union_forgets_the_other": ("desk_union([0, 0, 0], [1, 1, 1])", "[1, 1, 1]", "[0, 0, 0]"),
         "the_extent_is_lost": (call("desk_input", row([5]), [7]), "4, end 1, total 0, 0 at []", "4, end 0, total 0, 0 at []"),
