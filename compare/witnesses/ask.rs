@@ -1,5 +1,5 @@
-// What the table asks, in Rust: a function makes a call of the library and says its answer in words. `run` gives a program the functions that its witnesses
-// name; a function begins in the first column and ends there.
+// What the table asks, in Rust: a function makes a call of the library and says its answer in words. `run` gives a program the functions
+// that its witnesses name; a function begins in the first column and ends there.
 
 // ---- allowances, digests, books
 
@@ -162,10 +162,10 @@ fn ran(a: run_calls::RunAnswer, before: [Vec<u32>; 2], after: [Vec<u32>; 2]) -> 
         run::RunEnding::Ended(ending) => ending,
     };
     let [done, coming] = after;
-    let (done, coming) = (done.split_at(4 * a.d), coming.split_at(4 * a.idx));
+    let (done, coming) = (done.split_at(4 * a.d), coming[..4096].split_at(4 * a.idx));
     let show = |g: &[u32]| if g[1..] == [1, 0, 0x101] { g[0].to_string() } else { format!("{g:?}") };
     let mut text: Vec<String> = done.0.chunks(4).chain(coming.1.chunks(4)).map(show).collect();
-    if text.len() > 8 {
+    if text.is_empty() || text.len() > 8 {
         text = vec![format!("of {} glyphs", text.len())];
     }
     let left = if done.1.iter().chain(coming.0).all(|&word| word == 0) { "" } else { ", cells left" };

@@ -1,14 +1,13 @@
-"""What tells each wrong answer from the right one: for each must-fail edit of src/, by crate, what is asked, the right answer, the wrong program's.
+"""What tells each wrong answer from the right one. For each must-fail edit of src/, by crate: what is asked, the right answer, the wrong program's.
 
-An answer is Rust's text of a value (Debug), or what a function of ask.rs makes of it, or "stops" for a program that panics. CONTRACT stands for an
-edit that changes a contract alone: there is no other program to run.
+What is asked is an expression of Rust, written by the functions below. An answer is a value as Rust's Debug prints it, or what a function of ask.rs
+makes of it; "stops" is a program that panics. CONTRACT is an edit of a contract alone, which leaves the program as it is.
 """
 
 CONTRACT = "an edit of a contract"
-LIMIT = 1024
 
 
-# ---- Rust, from Python's values
+# ---- expressions of Rust
 
 
 def rust(value):
@@ -26,23 +25,49 @@ def call(function, *values):
 
 
 def said(expression):
-    """A value, by Debug."""
+    """A value, as Debug prints it."""
     return f'format!("{{:?}}", {expression})'
 
 
-# ---- glyphs and rows
+# ---- digests and allowances
 
 
-def glyph(id, mask=1, flags=0, syllable=0, props=0, lig=0, comp=0, count=1, ligated=1):
-    """The four words of a glyph. An id alone, in a row, is the glyph that the cards have: mask 1, both counts 1, else 0."""
-    return [id, mask, flags << 24 | syllable << 16 | props, lig << 24 | comp << 16 | count << 8 | ligated]
+def digest(expression):
+    """An expression of a new digest and a full one."""
+    return said(f"{{ let (new, full) = (digest::SetDigest::new(), digest::SetDigest::full()); {expression} }}")
 
+
+def rules(expression):
+    """An expression of a new digest and a full one, of rules' values."""
+    return said(f"{{ let (new, full) = (rule_digest::RuleSetDigest::new(), rule_digest::RuleSetDigest::full()); {expression} }}")
+
+
+def budget(expression):
+    return said(f"allowance::Budget::{expression}")
+
+
+def charged(opened, charge):
+    """A charge on an allowance that is opened with work and bytes; what is left of both."""
+    return call("charged", call("allowance::Budget::new", *opened) + f".{charge}")
+
+
+# ---- glyphs, rows, lookups
 
 IGNORABLE, ZWNJ, ZWJ, HIDDEN = 1, 2, 4, 8  # flags
 BASE, LIGATURE, MARK = 2, 4, 8  # props
 
 
+def glyph(id, mask=1, flags=0, syllable=0, props=0, lig=0, comp=0, count=1, ligated=1):
+    """The four words of a glyph."""
+    return [id, mask, flags << 24 | syllable << 16 | props, lig << 24 | comp << 16 | count << 8 | ligated]
+
+
+def mark(id, **more):
+    return glyph(id, props=MARK, **more)
+
+
 def row(glyphs):
+    """The words of glyphs; an id stands for a plain glyph, as the cards have them."""
     return [word for g in glyphs for word in (glyph(g) if isinstance(g, int) else g)]
 
 
@@ -54,7 +79,7 @@ def terms(gpos=False, zwnj=False, zwj=False, syllables=False, mask=1, props=0):
     return call("terms", gpos, zwnj, zwj, syllables, mask, props)
 
 
-# ---- a glyph judged, a row walked
+# ---- a glyph judged; the row is this glyph
 
 EQUAL, ANY, NOTHING = "verdict::Test::Equal", "verdict::Test::Any", "verdict::Test::Nothing"
 
@@ -64,7 +89,6 @@ def sign(test, value):
 
 
 def may_skip(g, place=0, sets=(), **asked):
-    """May the glyph g be skipped? Or the glyph at a place of the row that g begins and ends."""
     return said(call("verdict_ask::ask_skip", row([g]), place, matcher(**asked), sets))
 
 
@@ -80,13 +104,21 @@ def is_value(g, value=7, test=EQUAL):
     return said(call("verdict_match::is_value", sign(test, value), [], call("glyph::read", row([g]), 0)))
 
 
-def forward(glyphs, place=0, len_=None, value=7, syllable=0, sets=(), **asked):
-    len_ = len(glyphs) if len_ is None else len_
-    return said(call("walk::forward", row(glyphs), len_, place, matcher(**asked), sign(EQUAL, value), syllable, sets))
+def tell(first, this, **asked):
+    """What is told of the glyph `this` in a match of the value 7 from the glyph `first` on."""
+    return call("tell", matcher(**asked), row([first]), row([this]))
+
+
+# ---- a row walked
+
+
+def forward(glyphs, place=0, length=None, value=7, syllable=0, sets=(), **asked):
+    length = len(glyphs) if length is None else length
+    return said(call("walk::forward", row(glyphs), length, place, matcher(**asked), sign(EQUAL, value), syllable, sets))
 
 
 def forward_in_part(glyphs, value=7, **asked):
-    """Over a part of a row, from its first place on."""
+    """From the first glyph of a part on."""
     return said(call("walk::forward_from", row(glyphs), len(glyphs), 0, matcher(**asked), sign(EQUAL, value), [], 0, []))
 
 
@@ -94,47 +126,37 @@ def backward(glyphs, place, value=7, syllable=0, sets=(), **asked):
     return said(call("walk::backward", row(glyphs), place, matcher(**asked), sign(EQUAL, value), syllable, sets))
 
 
-def mark(id, **more):
-    return glyph(id, props=MARK, **more)
-
-
 def nth(glyphs, n, place=0, value=7, **asked):
     """A walker's match after n others."""
     return said(call("walker::nth", row(glyphs), len(glyphs), place, n, matcher(**asked), sign(EQUAL, value), 0, []))
 
 
-# ---- matches
+# ---- matches, as in the cards
 
 
-def text(coming, done, d, len_, cursor):
-    return row(done), len(done) if d is None else d, row(coming), len(coming) if len_ is None else len_, cursor
+def text(coming, done, d, length, cursor):
+    return row(done), len(done) if d is None else d, row(coming), len(coming) if length is None else length, cursor
 
 
-def input(coming, values=(7,), done=(), d=None, len_=None, cursor=0, sets=(), **lookup):
-    """Input matching, as in the cards: the values against the glyphs of `coming` after the cursor."""
-    there = text(coming, done, d, len_, cursor)
+def match_input(coming, values=(7,), done=(), d=None, length=None, cursor=0, sets=(), **lookup):
+    there = text(coming, done, d, length, cursor)
     return call("input", call("matching_calls::match_input", *there, terms(**lookup), sets, EQUAL, values))
 
 
-def lookahead(coming, start, values=(7,), done=(), d=None, len_=None, cursor=0, sets=(), **lookup):
-    there = text(coming, done, d, len_, cursor)
+def match_lookahead(coming, start, values=(7,), done=(), d=None, length=None, cursor=0, sets=(), **lookup):
+    there = text(coming, done, d, length, cursor)
     return said(call("matching_calls::match_lookahead", *there, start, terms(**lookup), sets, EQUAL, values))
 
 
-def backtrack(coming, values=(7,), done=(), d=None, len_=None, cursor=0, sets=(), **lookup):
-    there = text(coming, done, d, len_, cursor)
+def match_backtrack(coming, values=(7,), done=(), d=None, length=None, cursor=0, sets=(), **lookup):
+    there = text(coming, done, d, length, cursor)
     return said(call("matching_calls::match_backtrack", *there, terms(**lookup), sets, EQUAL, values))
 
 
-# Marks of two components of ligature 1, the ligature itself, and what input matching says of the marks where they may be taken together.
+# Marks of two components of ligature 1, that ligature, and what is said of the marks where they may be taken together.
 MARKS_OF_TWO = [mark(5, lig=1, comp=1), mark(7, lig=1, comp=2)]
 BASE_OF_MARKS = glyph(2, props=LIGATURE, lig=1)
 MARKS_JOIN = "Matched { end: 2, total: 2 }, 2 at [0, 1]"
-
-
-def tell(first, this, **asked):
-    """What is told of the glyph `this` in a match from the glyph `first` on, value 7."""
-    return call("tell", matcher(**asked), row([first]), row([this]))
 
 
 # ---- the tape
@@ -148,7 +170,7 @@ def frame(coming, values=(7,), done=(), table="GSUB", settings=0, mask=1, props=
 
 
 def tape(line):
-    """The bench tape's program, of one line."""
+    """What the tape's program answers to a line."""
     return call("tape", line.encode() + b"\n")
 
 
@@ -158,78 +180,70 @@ T1 = frame([5, 7])
 # ---- books and runs
 
 KIND_1, KIND_2, KIND_3 = 1, 2, 3
+LIMIT = 1024
+STRUCTS = "run_of_structs"
 
 
 def lookup(kind, *body, props=0):
-    """The words of a lookup."""
     return [kind, props % 65536, props // 65536, len(body), *body]
 
 
 def chain(first, backtrack=(), input=(), lookahead=(), records=(), props=0):
-    """The words of a chain; a record is a pair."""
     pairs = [word for record in records for word in record]
     values = [len(backtrack), *backtrack, len(input), *input, len(lookahead), *lookahead]
     return lookup(KIND_3, first, *values, len(records), *pairs, props=props)
 
 
-def run(coming, book, records, done=(), d=None, idx=None, places=None, count=None, end=LIMIT, answer="Matched {{ end: {}, total: 0 }}",
-        sets=(), allowance=1, depth=1, zwnj=False, zwj=False, syllables=False, mask=1, done_words=4096, coming_words=4096, how="run"):
-    """A run as in K11: `coming` ends its row and is matched whole. A record is a pair, or else `records` are words."""
+def run(
+    coming,
+    book,
+    records,  # pairs, or words
+    done=(),
+    d=None,
+    idx=None,
+    places=None,
+    count=None,
+    end=LIMIT,
+    answer="Matched {{ end: {}, total: 0 }}",
+    sets=(),
+    zwnj=False,
+    zwj=False,
+    syllables=False,
+    mask=1,
+    allowance=1,
+    depth=1,
+    done_words=4096,
+    coming_words=4096,
+    how="run",  # or STRUCTS: with the records as structs
+):
+    """A run as in K11: `coming` ends its row, and is matched whole."""
     d, idx = len(done) if d is None else d, LIMIT - len(coming) if idx is None else idx
     places = range(idx, LIMIT) if places is None else places
-    rows = "[" + call("begins", row(done), done_words) + ", " + call("ends", row(coming), coming_words) + "]"
+    rows = f"[{call('begins', row(done), done_words)}, {call('ends', row(coming), coming_words)}]"
     words = [word for record in records for word in (record if isinstance(record, tuple) else [record])]
-    m = call("matched", "matching::InputAnswer::" + answer.format(end), len(places) if count is None else count, places)
+    m = call("matched", f"matching::InputAnswer::{answer.format(end)}", len(places) if count is None else count, places)
     given = f"run::Given {{ zwnj: {rust(zwnj)}, zwj: {rust(zwj)}, syllables: {rust(syllables)}, mask: {mask} }}"
     return call(how, rows, d, idx, sets, book, words, m, given, allowance, depth)
 
 
+def one_glyph(records=(), book=(), **other):
+    return run([5], book, records, **other)
+
+
 K11_BOOK = lookup(KIND_2, 2, 2, 2, 2)
+K11_ANSWER = "Finished, spent 1, d 4, idx 1024, 4 at [0, 1, 2, 3], text 1 2 2 3"
 
 
 def k11(coming=(1, 2, 3), book=K11_BOOK, records=((1, 0),), **other):
     return run(coming, book, records, **other)
 
 
-K11_ANSWER = "Finished, spent 1, d 4, idx 1024, 4 at [0, 1, 2, 3], text 1 2 2 3"
-
-
 def desk_k11(book=K11_BOOK, number=0, allowance=1, depth=1):
-    """The same by the desk, which says the answer's number."""
+    """K11 by the desk, whose answer is a number; `number` is that of the match."""
     return call("desk_run", row([1, 2, 3]), book, [1, 0], number, allowance, depth)
 
 
-def structs_k11(coming=(1, 2, 3), book=K11_BOOK, records=((1, 0),), **other):
-    """The same with records as structs."""
-    return run(coming, book, records, how="run_of_structs", **other)
-
-
-def one_glyph(records=(), book=(), **other):
-    """A run over the glyph 5, which is matched."""
-    return run([5], book, records, **other)
-
-
-# ---- allowances and digests
-
-
-def budget(expression):
-    return said(f"allowance::Budget::{expression}")
-
-
-def charged(opened, charge):
-    """A charge on an allowance opened with work and bytes, and what of both is left."""
-    return call("charged", call("allowance::Budget::new", *opened) + f".{charge}")
-
-
-def rules(expression):
-    """Of the rules' digests `new` and `full`."""
-    return said(f"{{ let (new, full) = (rule_digest::RuleSetDigest::new(), rule_digest::RuleSetDigest::full()); {expression} }}")
-
-
-def digest(expression):
-    """Of the digests `new` and `full`."""
-    return said(f"{{ let (new, full) = (digest::SetDigest::new(), digest::SetDigest::full()); {expression} }}")
-
+# ---- the table
 
 TABLE = {
     "mask": {
@@ -302,13 +316,13 @@ TABLE = {
         "a_glyph_counts_as_three_words": (said("glyph::count(&[0; 12])"), "3", "4"),
         "a_pair_is_glyph_and_set": (said("glyph::in_set(&[3, 9], 3, 9)"), "true", "false"),
         "a_row_over_the_limit_is_taken": (
-            input([0] * 1025, [], len_=1), "Refused(Shape), 0 at []", "Matched { end: 1, total: 1 }, 1 at [0]",
+            match_input([0] * 1025, [], length=1), "Refused(Shape), 0 at []", "Matched { end: 1, total: 1 }, 1 at [0]",
         ),
         "a_syllable_is_written_into_props": (
             call("written", "&mut [0; 4]", 0, "glyph::read(&[0, 0, 65536, 0], 0)"), "[0, 0, 65536, 0]", "[0, 0, 256, 0]",
         ),
         "an_odd_number_of_pairs_is_refused": (
-            input([5], [], sets=(3, 9)), "Matched { end: 1, total: 1 }, 1 at [0]", "Refused(Shape), 0 at []",
+            match_input([5], [], sets=(3, 9)), "Matched { end: 1, total: 1 }, 1 at [0]", "Refused(Shape), 0 at []",
         ),
         "glyph_i_is_written_from_word_i_on": (
             call("written", "&mut [0; 8]", 1, "glyph::read(&[7, 0, 0, 0], 0)"), "[0, 0, 0, 0, 7, 0, 0, 0]", "[0, 7, 0, 0, 0, 0, 0, 0]",
@@ -365,10 +379,10 @@ TABLE = {
         ),
         "a_maybe_is_taken_for_a_yes": (is_value(7, test=NOTHING), "false", "true"),
         "a_maybe_that_fails_stops": (
-            input([5, glyph(9, flags=IGNORABLE), 7]), "Matched { end: 3, total: 2 }, 2 at [0, 2]", "Lost(2), 0 at []",
+            match_input([5, glyph(9, flags=IGNORABLE), 7]), "Matched { end: 3, total: 2 }, 2 at [0, 2]", "Lost(2), 0 at []",
         ),
         "a_maybe_that_matches_is_passed_over": (
-            input([5, glyph(9, flags=IGNORABLE), 7], [9]), "Matched { end: 2, total: 2 }, 2 at [0, 1]", "Lost(3), 0 at []",
+            match_input([5, glyph(9, flags=IGNORABLE), 7], [9]), "Matched { end: 2, total: 2 }, 2 at [0, 1]", "Lost(3), 0 at []",
         ),
         "a_no_is_taken_for_a_yes": (is_value(9), "false", "true"),
         "a_skip_yes_glyph_stops": (forward([5, mark(9), 7], props=8), "Found(2)", "Stopped(2)"),
@@ -424,7 +438,7 @@ TABLE = {
         ),
     },
     "walk": {
-        "a_place_past_len_is_walked_from": (forward([5], place=1, len_=0), "Refused", "RanOut(2)"),
+        "a_place_past_len_is_walked_from": (forward([5], place=1, length=0), "Refused", "RanOut(2)"),
         "a_stop_in_a_part_is_one_early": (forward_in_part([5]), "Stopped(1)", "Stopped(0)"),
         "backward_forgets_the_starting_syllable": (
             backward([glyph(7, syllable=2)], 1, syllable=1, syllables=True), "Stopped(0)", "Found(0)",
@@ -435,7 +449,7 @@ TABLE = {
         "the_extent_of_running_out_is_the_length": (forward([5], place=1), "RanOut(2)", "RanOut(1)"),
         "the_first_tested_is_the_place_itself": (forward([7, 5]), "Stopped(2)", "Found(0)"),
     },
-    "walker": {
+    "walker": {  # its steps are proved by hand, and there an edit can change only the contract (docs/DECISIONS.md)
         "a_new_walker_stands_at_the_rows_start": CONTRACT,
         "a_walker_that_was_stopped_goes_to_the_extent": (
             said(f"walker::follow(walker::new({rust(row([5, 5]))}, 0), walk::Walked::Stopped(2)).place"), "0", "2",
@@ -449,59 +463,66 @@ TABLE = {
         "the_plain_step_walks_backward": CONTRACT,
     },
     "ligature": {
-        "a_base_that_is_not_skipped_will_do": (input(MARKS_OF_TWO, done=[BASE_OF_MARKS]), "Ligature, 0 at []", MARKS_JOIN),
-        "a_component_is_taken_for_the_base": (input(MARKS_OF_TWO, done=[BASE_OF_MARKS], props=4), MARKS_JOIN, "Ligature, 0 at []"),
-        "a_later_glyph_may_have_another_component": (input(MARKS_OF_TWO), "Ligature, 0 at []", MARKS_JOIN),
-        "an_attached_glyph_joins_a_first_of_no_ligature": (input([5, glyph(7, lig=1, comp=1)]), "Ligature, 0 at []", MARKS_JOIN),
+        "a_base_that_is_not_skipped_will_do": (match_input(MARKS_OF_TWO, done=[BASE_OF_MARKS]), "Ligature, 0 at []", MARKS_JOIN),
+        "a_component_is_taken_for_the_base": (match_input(MARKS_OF_TWO, done=[BASE_OF_MARKS], props=4), MARKS_JOIN, "Ligature, 0 at []"),
+        "a_later_glyph_may_have_another_component": (match_input(MARKS_OF_TWO), "Ligature, 0 at []", MARKS_JOIN),
+        "an_attached_glyph_joins_a_first_of_no_ligature": (match_input([5, glyph(7, lig=1, comp=1)]), "Ligature, 0 at []", MARKS_JOIN),
         "the_rows_first_glyph_is_taken_for_the_base": (
-            input(MARKS_OF_TWO, done=[2, BASE_OF_MARKS], props=4), MARKS_JOIN, "Ligature, 0 at []",
+            match_input(MARKS_OF_TWO, done=[2, BASE_OF_MARKS], props=4), MARKS_JOIN, "Ligature, 0 at []",
         ),
         "the_search_goes_past_another_id": (
-            input(MARKS_OF_TWO, done=[glyph(2, props=LIGATURE, lig=2)], props=4), "Ligature, 0 at []", MARKS_JOIN,
+            match_input(MARKS_OF_TWO, done=[glyph(2, props=LIGATURE, lig=2)], props=4), "Ligature, 0 at []", MARKS_JOIN,
         ),
-        "where_no_base_is_found_any_glyph_joins": (input(MARKS_OF_TWO), "Ligature, 0 at []", MARKS_JOIN),
+        "where_no_base_is_found_any_glyph_joins": (match_input(MARKS_OF_TWO), "Ligature, 0 at []", MARKS_JOIN),
     },
     "matching": {
         "a_cursor_past_the_end_is_refused_by_1": (tape(frame([5], cursor=1)), "02", "01"),
-        "every_match_has_one_reply": (input([5, 7]), "Matched { end: 2, total: 2 }, 2 at [0, 1]", "Lost(1), 0 at [] and an unused slot filled"),
+        "every_match_has_one_reply": (match_input([5, 7]), "Matched { end: 2, total: 2 }, 2 at [0, 1]", "Lost(1), 0 at [] and an unused slot filled"),
         "number_4_is_taken_for_a_success": (
             desk_k11(number=4), "7, spent 0, d 0, idx 0, 0 at []", "0, spent 1, d 4, idx 1024, 4 at [0, 1, 2, 3]",
         ),
-        "the_cursor_glyph_is_tested": (input([5, 7]), "Matched { end: 2, total: 2 }, 2 at [0, 1]", "Lost(1), 0 at []"),
+        "the_cursor_glyph_is_tested": (match_input([5, 7]), "Matched { end: 2, total: 2 }, 2 at [0, 1]", "Lost(1), 0 at []"),
         "the_end_is_the_texts": (
-            input([5, 7, 9]), "Matched { end: 2, total: 2 }, 2 at [0, 1]", "Matched { end: 3, total: 2 }, 2 at [0, 1]",
+            match_input([5, 7, 9]), "Matched { end: 2, total: 2 }, 2 at [0, 1]", "Matched { end: 3, total: 2 }, 2 at [0, 1]",
         ),
-        "the_ligature_refusal_has_an_extent": (input(MARKS_OF_TWO), "Ligature, 0 at []", "Lost(2), 0 at []"),
-        "the_rule_is_asked_of_the_cursors_glyph": (input(MARKS_OF_TWO), "Ligature, 0 at []", MARKS_JOIN),
+        "the_ligature_refusal_has_an_extent": (match_input(MARKS_OF_TWO), "Ligature, 0 at []", "Lost(2), 0 at []"),
+        "the_rule_is_asked_of_the_cursors_glyph": (match_input(MARKS_OF_TWO), "Ligature, 0 at []", MARKS_JOIN),
         "the_total_forgets_the_cursors_count": (
-            input([5], []), "Matched { end: 1, total: 1 }, 1 at [0]", "Matched { end: 1, total: 0 }, 1 at [0]",
+            match_input([5], []), "Matched { end: 1, total: 1 }, 1 at [0]", "Matched { end: 1, total: 0 }, 1 at [0]",
         ),
         "the_total_takes_the_cursors_count_in_ligation": (
-            input([glyph(5, count=2)], []), "Matched { end: 1, total: 2 }, 1 at [0]", "Matched { end: 1, total: 1 }, 1 at [0]",
+            match_input([glyph(5, count=2)], []), "Matched { end: 1, total: 2 }, 1 at [0]", "Matched { end: 1, total: 1 }, 1 at [0]",
         ),
     },
     "matching_context": {
-        "backtrack_answers_how_many_values_matched": (backtrack([5], done=[7]), "Matched(0)", "Matched(1)"),
-        "backtrack_runs_out_with_an_extent_of_1": (backtrack([5]), "Lost(0)", "Lost(1)"),
-        "lookahead_starts_one_late": (lookahead([5, 7], 1), "Matched(2)", "Lost(2)"),
-        "the_backward_row_of_gpos_is_done": (backtrack([7, 5], cursor=1, gpos=True), "Matched(0)", "Lost(0)"),
+        "backtrack_answers_how_many_values_matched": (match_backtrack([5], done=[7]), "Matched(0)", "Matched(1)"),
+        "backtrack_has_the_input_matcher": (match_backtrack([5], done=[glyph(7, mask=2)], mask=1), "Matched(0)", "Lost(0)"),
+        "backtrack_runs_out_with_an_extent_of_1": (match_backtrack([5]), "Lost(0)", "Lost(1)"),
+        "lookahead_counts_a_stop_in_its_part": (match_lookahead([5, 6], 1), "Lost(2)", "Lost(1)"),
+        "lookahead_counts_its_end_in_its_part": (match_lookahead([5, 7], 1), "Matched(2)", "Matched(1)"),
+        "lookahead_counts_running_out_in_its_part": (match_lookahead([5, 7], 1, [7, 7]), "Lost(2)", "Lost(1)"),
+        "lookahead_has_the_input_matcher": (match_lookahead([5, glyph(7, mask=2)], 1, mask=1), "Matched(2)", "Lost(2)"),
+        "lookahead_starts_one_late": (match_lookahead([5, 7], 1), "Matched(2)", "Lost(2)"),
+        "the_backward_row_of_gpos_is_done": (match_backtrack([7, 5], cursor=1, gpos=True), "Matched(0)", "Lost(0)"),
     },
     "matching_calls": {
-        "a_start_of_1_is_refused_by_6": (lookahead([5, 7], 1), "Matched(2)", "Refused(Start)"),
-        "context_refuses_64_values": (backtrack([5], [7] * 64), "Lost(0)", "Refused(Values)"),
-        "everything_is_refused": (input([5, 7]), "Matched { end: 2, total: 2 }, 2 at [0, 1]", "Refused(Shape), 0 at []"),
-        "input_takes_64_values": (input([5], [7] * 64), "Refused(Values), 0 at []", "Lost(1), 0 at []"),
+        "a_start_of_1_is_refused_by_6": (match_lookahead([5, 7], 1), "Matched(2)", "Refused(Start)"),
+        "context_refuses_64_values": (match_backtrack([5], [7] * 64), "Lost(0)", "Refused(Values)"),
+        "everything_is_refused": (match_input([5, 7]), "Matched { end: 2, total: 2 }, 2 at [0, 1]", "Refused(Shape), 0 at []"),
+        "input_takes_64_values": (match_input([5], [7] * 64), "Refused(Values), 0 at []", "Lost(1), 0 at []"),
         "slots_stay_filled_after_a_refusal": (
-            input([5], cursor=1), "Refused(Cursor), 0 at []", "Refused(Cursor), 0 at [] and an unused slot filled",
+            match_input([5], cursor=1), "Refused(Cursor), 0 at []", "Refused(Cursor), 0 at [] and an unused slot filled",
         ),
         "the_cursor_is_tested_before_the_shape": (
-            input([5], len_=2, cursor=2), "Refused(Shape), 0 at []", "Refused(Cursor), 0 at []",
+            match_input([5], length=2, cursor=2), "Refused(Shape), 0 at []", "Refused(Cursor), 0 at []",
         ),
     },
     "text": {
+        "a_coming_row_of_another_length_is_taken": (k11(coming_words=4100), "refused for its Shape, no word changed", K11_ANSWER),
         "a_cursor_at_the_end_is_taken": (
             run([], [], [], places=[1024]), "refused for its Cursor, no word changed", "refused for its Match, no word changed",
         ),
+        "a_done_row_of_another_length_is_taken": (k11(done_words=4100), "refused for its Shape, no word changed", K11_ANSWER),
         "a_move_forth_takes_d_glyphs": (
             one_glyph(),
             "Finished, spent 0, d 1, idx 1024, 1 at [0], text 5",
@@ -522,6 +543,11 @@ TABLE = {
             "Finished, spent 1, d 1, idx 1024, 1 at [0], text 7",
             "Finished, spent 1, d 1, idx 1024, 1 at [0], text [5, 7, 0, 257]",
         ),
+        "d_past_its_row_is_refused_by_2": (
+            k11(d=1025, idx=1025, places=[1021, 1022, 1023]),
+            "refused for its Shape, no word changed",
+            "refused for its Cursor, no word changed",
+        ),
         "full_is_judged_one_glyph_late": (
             run([5] * 1024, lookup(KIND_2, 5, 2, 5, 5), [(0, 0)], places=[0], end=1),
             "Full, spent 1, d 0, idx 0, 1 at [0], text of 1024 glyphs",
@@ -537,6 +563,7 @@ TABLE = {
             "Finished, spent 0, d 1, idx 1024, 1 at [0], text 5",
             "Finished, spent 0, d 1, idx 1024, 1 at [0], text 5, cells left",
         ),
+        "no_cell_is_cleared": (k11(), K11_ANSWER, K11_ANSWER + ", cells left"),
     },
     "book": {
         "a_chain_acts_by_itself": (
@@ -629,6 +656,16 @@ TABLE = {
         ),
     },
     "run_step": {
+        "a_position_at_the_texts_length_is_taken": (
+            run([1], lookup(KIND_2, 1, 0), [(0, 0), (0, 0)]),
+            "Finished, spent 1, d 0, idx 1024, 1 at [0], text of 0 glyphs",
+            "Short, spent 1, d 0, idx 1024, 1 at [0], text of 0 glyphs",
+        ),
+        "a_sequence_index_at_the_count_is_taken": (
+            k11(records=[(3, 0)]),
+            "Finished, spent 0, d 3, idx 1024, 3 at [0, 1, 2], text 1 2 3",
+            "Finished, spent 1, d 3, idx 1024, 3 at [0, 1, 2], text 1 2 3",
+        ),
         "a_stop_invents_the_number_spent": (
             k11(depth=0),
             "Deep, spent 0, d 1, idx 1022, 3 at [0, 1, 2], text 1 2 3",
@@ -654,6 +691,7 @@ TABLE = {
             "Finished, spent 1, d 1, idx 1024, 1 at [0], text 2",
             "Finished, spent 1, d 1, idx 1024, 1 at [0], text 1",
         ),
+        "kind_2_touches_nothing": (k11(), K11_ANSWER, "Finished, spent 1, d 3, idx 1024, 3 at [0, 1, 2], text 1 2 3"),
         "no_allowance_is_answered_as_deep": (
             k11(allowance=0, depth=0),
             "Short, spent 0, d 3, idx 1024, 3 at [0, 1, 2], text 1 2 3",
@@ -684,6 +722,12 @@ TABLE = {
     },
     "run_calls": {
         "a_depth_of_65_is_run": (k11(depth=65), "refused for its Limits, no word changed", K11_ANSWER),
+        "a_lost_match_is_run": (k11(answer="Lost({})"), "refused for its Match, no word changed", K11_ANSWER),
+        "a_match_may_begin_after_the_cursor": (
+            k11(records=[(0, 0)], places=[1022, 1023]),
+            "refused for its Match, no word changed",
+            "Finished, spent 1, d 4, idx 1024, 3 at [1, 2, 3], text 1 2 2 3",
+        ),
         "an_allowance_of_2147483648_is_run": (k11(allowance=2147483648), "refused for its Limits, no word changed", K11_ANSWER),
         "an_unreadable_book_is_a_bad_match": (
             k11(book=[0]), "refused for its Book, no word changed", "refused for its Match, no word changed",
@@ -693,17 +737,21 @@ TABLE = {
             K11_ANSWER,
             f"Finished, spent 1, d 4, idx 1024, 4 at [0, 1, 2, 3], text {' '.join(['[0, 0, 0, 0]'] * 4)}, cells left",
         ),
+        "odd_records_are_run": (k11(records=[1, 0, 1]), "refused for its Shape, no word changed", K11_ANSWER),
+        "seventeen_records_are_run": (
+            k11(records=[(1, 0)] + [(9, 0)] * 16), "refused for its Shape, no word changed", K11_ANSWER,
+        ),
     },
     "run_record_structs": {
-        "no_record_is_run": (structs_k11(), K11_ANSWER, "Finished, spent 0, d 3, idx 1024, 3 at [0, 1, 2], text 1 2 3"),
-        "sequence_and_lookup_are_swapped": (structs_k11(), K11_ANSWER, "Finished, spent 1, d 3, idx 1024, 3 at [0, 1, 2], text 1 2 3"),
+        "no_record_is_run": (k11(how=STRUCTS), K11_ANSWER, "Finished, spent 0, d 3, idx 1024, 3 at [0, 1, 2], text 1 2 3"),
+        "sequence_and_lookup_are_swapped": (k11(how=STRUCTS), K11_ANSWER, "Finished, spent 1, d 3, idx 1024, 3 at [0, 1, 2], text 1 2 3"),
         "seventeen_records_are_accepted": (
-            structs_k11(records=[(1, 0)] * 17, allowance=17),
+            k11(records=[(1, 0)] * 17, allowance=17, how=STRUCTS),
             "refused for its Shape, no word changed",
             f"Finished, spent 16, d 19, idx 1024, 19 at {list(range(19))}, text of 19 glyphs",
         ),
         "the_first_record_is_forgotten": (
-            structs_k11([1, 1], lookup(KIND_1, 1, 2), [(0, 0), (1, 0)], allowance=2),
+            k11([1, 1], lookup(KIND_1, 1, 2), [(0, 0), (1, 0)], allowance=2, how=STRUCTS),
             "Finished, spent 2, d 2, idx 1024, 2 at [0, 1], text 2 2",
             "Finished, spent 1, d 2, idx 1024, 2 at [0, 1], text 1 2",
         ),
