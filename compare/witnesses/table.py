@@ -153,10 +153,11 @@ def match_backtrack(coming, values=(7,), done=(), d=None, length=None, cursor=0,
     return said(call("matching_calls::match_backtrack", *there, terms(**lookup), sets, EQUAL, values))
 
 
-# Marks of two components of ligature 1, that ligature, and what is said of the marks where they may be taken together.
+K1_ANSWER = "Matched { end: 2, total: 2 }, 2 at [0, 1]"
+
+# Marks of two components of ligature 1, and that ligature.
 MARKS_OF_TWO = [mark(5, lig=1, comp=1), mark(7, lig=1, comp=2)]
 BASE_OF_MARKS = glyph(2, props=LIGATURE, lig=1)
-MARKS_JOIN = "Matched { end: 2, total: 2 }, 2 at [0, 1]"
 
 
 # ---- the tape
@@ -382,7 +383,7 @@ TABLE = {
             match_input([5, glyph(9, flags=IGNORABLE), 7]), "Matched { end: 3, total: 2 }, 2 at [0, 2]", "Lost(2), 0 at []",
         ),
         "a_maybe_that_matches_is_passed_over": (
-            match_input([5, glyph(9, flags=IGNORABLE), 7], [9]), "Matched { end: 2, total: 2 }, 2 at [0, 1]", "Lost(3), 0 at []",
+            match_input([5, glyph(9, flags=IGNORABLE), 7], [9]), K1_ANSWER, "Lost(3), 0 at []",
         ),
         "a_no_is_taken_for_a_yes": (is_value(9), "false", "true"),
         "a_skip_yes_glyph_stops": (forward([5, mark(9), 7], props=8), "Found(2)", "Stopped(2)"),
@@ -463,30 +464,30 @@ TABLE = {
         "the_plain_step_walks_backward": CONTRACT,
     },
     "ligature": {
-        "a_base_that_is_not_skipped_will_do": (match_input(MARKS_OF_TWO, done=[BASE_OF_MARKS]), "Ligature, 0 at []", MARKS_JOIN),
-        "a_component_is_taken_for_the_base": (match_input(MARKS_OF_TWO, done=[BASE_OF_MARKS], props=4), MARKS_JOIN, "Ligature, 0 at []"),
-        "a_later_glyph_may_have_another_component": (match_input(MARKS_OF_TWO), "Ligature, 0 at []", MARKS_JOIN),
-        "an_attached_glyph_joins_a_first_of_no_ligature": (match_input([5, glyph(7, lig=1, comp=1)]), "Ligature, 0 at []", MARKS_JOIN),
+        "a_base_that_is_not_skipped_will_do": (match_input(MARKS_OF_TWO, done=[BASE_OF_MARKS]), "Ligature, 0 at []", K1_ANSWER),
+        "a_component_is_taken_for_the_base": (match_input(MARKS_OF_TWO, done=[BASE_OF_MARKS], props=4), K1_ANSWER, "Ligature, 0 at []"),
+        "a_later_glyph_may_have_another_component": (match_input(MARKS_OF_TWO), "Ligature, 0 at []", K1_ANSWER),
+        "an_attached_glyph_joins_a_first_of_no_ligature": (match_input([5, glyph(7, lig=1, comp=1)]), "Ligature, 0 at []", K1_ANSWER),
         "the_rows_first_glyph_is_taken_for_the_base": (
-            match_input(MARKS_OF_TWO, done=[2, BASE_OF_MARKS], props=4), MARKS_JOIN, "Ligature, 0 at []",
+            match_input(MARKS_OF_TWO, done=[2, BASE_OF_MARKS], props=4), K1_ANSWER, "Ligature, 0 at []",
         ),
         "the_search_goes_past_another_id": (
-            match_input(MARKS_OF_TWO, done=[glyph(2, props=LIGATURE, lig=2)], props=4), "Ligature, 0 at []", MARKS_JOIN,
+            match_input(MARKS_OF_TWO, done=[glyph(2, props=LIGATURE, lig=2)], props=4), "Ligature, 0 at []", K1_ANSWER,
         ),
-        "where_no_base_is_found_any_glyph_joins": (match_input(MARKS_OF_TWO), "Ligature, 0 at []", MARKS_JOIN),
+        "where_no_base_is_found_any_glyph_joins": (match_input(MARKS_OF_TWO), "Ligature, 0 at []", K1_ANSWER),
     },
     "matching": {
         "a_cursor_past_the_end_is_refused_by_1": (tape(frame([5], cursor=1)), "02", "01"),
-        "every_match_has_one_reply": (match_input([5, 7]), "Matched { end: 2, total: 2 }, 2 at [0, 1]", "Lost(1), 0 at [] and an unused slot filled"),
+        "every_match_has_one_reply": (match_input([5, 7]), K1_ANSWER, "Lost(1), 0 at [] and an unused slot filled"),
         "number_4_is_taken_for_a_success": (
             desk_k11(number=4), "7, spent 0, d 0, idx 0, 0 at []", "0, spent 1, d 4, idx 1024, 4 at [0, 1, 2, 3]",
         ),
-        "the_cursor_glyph_is_tested": (match_input([5, 7]), "Matched { end: 2, total: 2 }, 2 at [0, 1]", "Lost(1), 0 at []"),
+        "the_cursor_glyph_is_tested": (match_input([5, 7]), K1_ANSWER, "Lost(1), 0 at []"),
         "the_end_is_the_texts": (
-            match_input([5, 7, 9]), "Matched { end: 2, total: 2 }, 2 at [0, 1]", "Matched { end: 3, total: 2 }, 2 at [0, 1]",
+            match_input([5, 7, 9]), K1_ANSWER, "Matched { end: 3, total: 2 }, 2 at [0, 1]",
         ),
         "the_ligature_refusal_has_an_extent": (match_input(MARKS_OF_TWO), "Ligature, 0 at []", "Lost(2), 0 at []"),
-        "the_rule_is_asked_of_the_cursors_glyph": (match_input(MARKS_OF_TWO), "Ligature, 0 at []", MARKS_JOIN),
+        "the_rule_is_asked_of_the_cursors_glyph": (match_input(MARKS_OF_TWO), "Ligature, 0 at []", K1_ANSWER),
         "the_total_forgets_the_cursors_count": (
             match_input([5], []), "Matched { end: 1, total: 1 }, 1 at [0]", "Matched { end: 1, total: 0 }, 1 at [0]",
         ),
@@ -507,14 +508,26 @@ TABLE = {
     },
     "matching_calls": {
         "a_start_of_1_is_refused_by_6": (match_lookahead([5, 7], 1), "Matched(2)", "Refused(Start)"),
+        "backtrack_takes_len_for_d": (match_backtrack([5, 6], done=[7, 8], d=1), "Matched(0)", "Lost(0)"),
+        "backtrack_takes_syllable_0_for_the_cursors": (
+            match_backtrack([glyph(5, syllable=1)], done=[glyph(7, syllable=2)], syllables=True), "Lost(0)", "Matched(0)",
+        ),
         "context_refuses_64_values": (match_backtrack([5], [7] * 64), "Lost(0)", "Refused(Values)"),
-        "everything_is_refused": (match_input([5, 7]), "Matched { end: 2, total: 2 }, 2 at [0, 1]", "Refused(Shape), 0 at []"),
+        "everything_is_refused": (match_input([5, 7]), K1_ANSWER, "Refused(Shape), 0 at []"),
+        "input_goes_past_len": (match_input([5, 7], length=1), "Lost(1), 0 at []", K1_ANSWER),
         "input_takes_64_values": (match_input([5], [7] * 64), "Refused(Values), 0 at []", "Lost(1), 0 at []"),
+        "lookahead_goes_past_len": (match_lookahead([5, 7], 1, length=1), "Lost(1)", "Matched(2)"),
+        "lookahead_takes_syllable_0_for_the_cursors": (
+            match_lookahead([glyph(5, syllable=1), glyph(7, syllable=2)], 1, syllables=True), "Lost(2)", "Matched(2)",
+        ),
         "slots_stay_filled_after_a_refusal": (
             match_input([5], cursor=1), "Refused(Cursor), 0 at []", "Refused(Cursor), 0 at [] and an unused slot filled",
         ),
         "the_cursor_is_tested_before_the_shape": (
             match_input([5], length=2, cursor=2), "Refused(Shape), 0 at []", "Refused(Cursor), 0 at []",
+        ),
+        "the_search_for_a_base_goes_past_d": (
+            match_input([glyph(5, lig=1, comp=1), glyph(7, lig=1, comp=2)], done=[mark(2, lig=1)], d=0, props=8), "Ligature, 0 at []", K1_ANSWER,
         ),
     },
     "text": {
