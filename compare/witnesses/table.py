@@ -652,6 +652,11 @@ TABLE = {
         ),
     },
     "run_chain_match": {
+        "a_chain_is_matched_with_all_mask_bits": (
+            run([5, glyph(6, mask=2)], chain(5, input=[6], records=[(0, 1)]) + lookup(KIND_1, 5, 9), [(0, 0)], allowance=2, depth=2),
+            "Finished, spent 1, d 2, idx 1024, 2 at [0, 1], text 5 [6, 2, 0, 257]",
+            "Finished, spent 2, d 2, idx 1024, 2 at [0, 1], text 9 [6, 2, 0, 257]",
+        ),
         "a_chain_starts_lookahead_at_the_cursor": (
             run([5, 6, 7], chain(5, input=[6], lookahead=[7], records=[(0, 1)]) + lookup(KIND_1, 5, 8), [(0, 0)], allowance=2, depth=2),
             "Finished, spent 2, d 3, idx 1024, 3 at [0, 1, 2], text 8 6 7",
@@ -741,6 +746,7 @@ TABLE = {
             "refused for its Match, no word changed",
             "Finished, spent 1, d 4, idx 1024, 3 at [1, 2, 3], text 1 2 2 3",
         ),
+        "a_run_takes_odd_mark_sets": (k11(sets=[0]), "refused for its Shape, no word changed", K11_ANSWER),
         "an_allowance_of_2147483648_is_run": (k11(allowance=2147483648), "refused for its Limits, no word changed", K11_ANSWER),
         "an_unreadable_book_is_a_bad_match": (
             k11(book=[0]), "refused for its Book, no word changed", "refused for its Match, no word changed",
