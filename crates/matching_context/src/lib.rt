@@ -30,7 +30,7 @@ pub fn lookahead(
     requires { ⌜ start ≤ length (glyphsOf (now text)) ⌝ }
     ensures { λ r. ⌜ r ≡ contextTold (ahead (length (glyphsOf (now (text .entry))))) start (aheadOn lookup (now (sets .entry)) (valueBy test (now (lists .entry))) (glyphsOf (now (text .entry))) start syllable (now (values .entry))) ⌝ }
 {
-    let m = verdict::matcher_of(lookup.settings, true, lookup.mask, lookup.props);
+    let matcher = verdict::matcher_of(lookup.settings, true, lookup.mask, lookup.props);
     let onward = glyph::onward(text, start);
     let len = glyph::count(onward);
     let mut next = 0;
@@ -40,7 +40,7 @@ pub fn lookahead(
             test,
             value: values[i],
         };
-        match walk::forward_from(onward, len, next, m, sign, lists, syllable, sets) {
+        match walk::forward_from(onward, len, next, matcher, sign, lists, syllable, sets) {
             Walked::Found(q) => {
                 next = q + 1;
                 i += 1;
