@@ -14,7 +14,9 @@ fn lookups(words: &[u16]) -> String {
     }
     let lookup = |k| match book::find_in(words, &index.starts, index.count, k) {
         book::Entry::One { props, from, to } => format!("props {props}, {from} to {to}"),
-        book::Entry::Many { props, from, ids } => format!("props {props}, {from} to {:?}", &words[ids.from..ids.to]),
+        book::Entry::Many { props, from, ids } => {
+            format!("props {props}, {from} to {:?}", &words[ids.from..ids.to])
+        }
         book::Entry::Chain { props, parts } => {
             let records = &words[parts.records.from..parts.records.to];
             format!("props {props}, a chain on {}, records {records:?}", parts.first)
@@ -41,17 +43,35 @@ fn tell(m: verdict::Matcher, first: &[u32], this: &[u32]) -> String {
     let sign = verdict::Sign { test: verdict::Test::Equal, value: 7 };
     let told = explain_glyph::tell(m, &[], sign, glyph::read(first, 0), glyph::read(this, 0), &[]);
     let seen = told.seen;
-    format!("{:?} {:?}, {:?} {:?}, {:?}, {:?}", seen.skip, seen.why, seen.may, seen.how, seen.verdict, told.turn)
+    format!(
+        "{:?} {:?}, {:?} {:?}, {:?}, {:?}",
+        seen.skip, seen.why, seen.may, seen.how, seen.verdict, told.turn
+    )
 }
 
 // ---- matches
 
-fn matcher(gpos: bool, zwnj: bool, zwj: bool, syllables: bool, context: bool, mask: u32, props: u32) -> verdict::Matcher {
+fn matcher(
+    gpos: bool,
+    zwnj: bool,
+    zwj: bool,
+    syllables: bool,
+    context: bool,
+    mask: u32,
+    props: u32,
+) -> verdict::Matcher {
     let table = verdict::table_of(gpos);
     verdict::matcher_of(verdict::Settings { table, zwnj, zwj, syllables }, context, mask, props)
 }
 
-fn terms(gpos: bool, zwnj: bool, zwj: bool, syllables: bool, mask: u32, props: u32) -> matching::Terms {
+fn terms(
+    gpos: bool,
+    zwnj: bool,
+    zwj: bool,
+    syllables: bool,
+    mask: u32,
+    props: u32,
+) -> matching::Terms {
     let table = verdict::table_of(gpos);
     matching::Terms { settings: verdict::Settings { table, zwnj, zwj, syllables }, mask, props }
 }
@@ -62,7 +82,8 @@ fn input(m: matching::InputMatch) -> String {
 
 fn slots(count: usize, positions: [u16; 64]) -> String {
     let used = count.min(64);
-    let more = if positions[used..].iter().all(|&p| p == 0) { "" } else { " and an unused slot filled" };
+    let more =
+        if positions[used..].iter().all(|&p| p == 0) { "" } else { " and an unused slot filled" };
     format!("{count} at {:?}{more}", &positions[..used])
 }
 
@@ -130,7 +151,8 @@ fn run(
 ) -> String {
     let before = rows.clone();
     let [done, coming] = &mut rows;
-    let answer = run_calls::run(done, coming, d, idx, sets, book, records, m, given, allowance, depth);
+    let answer =
+        run_calls::run(done, coming, d, idx, sets, book, records, m, given, allowance, depth);
     ran(answer, before, rows)
 }
 
@@ -150,7 +172,9 @@ fn run_of_structs(
     let [done, coming] = &mut rows;
     let record = |pair: &[u16]| run_record_structs::Record { sequence: pair[0], lookup: pair[1] };
     let records: Vec<_> = records.chunks(2).map(record).collect();
-    let answer = run_record_structs::run(done, coming, d, idx, sets, book, &records, m, given, allowance, depth);
+    let answer = run_record_structs::run(
+        done, coming, d, idx, sets, book, &records, m, given, allowance, depth,
+    );
     ran(answer, before, rows)
 }
 
@@ -158,25 +182,39 @@ fn run_of_structs(
 fn ran(a: run_calls::RunAnswer, before: [Vec<u32>; 2], after: [Vec<u32>; 2]) -> String {
     let changed = if before == after { "no word" } else { "words" };
     let ending = match a.ending {
-        run::RunEnding::Refused(why) => return format!("refused for its {why:?}, {changed} changed"),
+        run::RunEnding::Refused(why) => {
+            return format!("refused for its {why:?}, {changed} changed")
+        }
         run::RunEnding::Ended(ending) => ending,
     };
     let [done, coming] = after;
     let (done, coming) = (done.split_at(4 * a.d), coming[..4096].split_at(4 * a.idx));
-    let show = |g: &[u32]| if g[1..] == [1, 0, 0x101] { g[0].to_string() } else { format!("{g:?}") };
+    let show =
+        |g: &[u32]| if g[1..] == [1, 0, 0x101] { g[0].to_string() } else { format!("{g:?}") };
     let mut text: Vec<String> = done.0.chunks(4).chain(coming.1.chunks(4)).map(show).collect();
     if text.is_empty() || text.len() > 8 {
         text = vec![format!("of {} glyphs", text.len())];
     }
-    let left = if done.1.iter().chain(coming.0).all(|&word| word == 0) { "" } else { ", cells left" };
+    let left =
+        if done.1.iter().chain(coming.0).all(|&word| word == 0) { "" } else { ", cells left" };
     let (spent, d, idx, text) = (a.spent, a.d, a.idx, text.join(" "));
-    format!("{ending:?}, spent {spent}, d {d}, idx {idx}, {}, text {text}{left}", slots(a.count, a.positions))
+    format!(
+        "{ending:?}, spent {spent}, d {d}, idx {idx}, {}, text {text}{left}",
+        slots(a.count, a.positions)
+    )
 }
 
 // ---- the desk
 
 // A run as in K11, with the number of the match that is handed in.
-fn desk_run(coming: &[u32], book: &[u16], records: &[u16], number: u8, allowance: u32, depth: usize) -> String {
+fn desk_run(
+    coming: &[u32],
+    book: &[u16],
+    records: &[u16],
+    number: u8,
+    allowance: u32,
+    depth: usize,
+) -> String {
     let count = coming.len() / 4;
     let idx = 1024 - count;
     let mut positions = [0; 64];
@@ -186,8 +224,27 @@ fn desk_run(coming: &[u32], book: &[u16], records: &[u16], number: u8, allowance
     let m = desk::matches::Matched { number, total: 0, end: 1024, count, positions };
     let switches = desk::nestings::Switches { zwnj: false, zwj: false, syllables: false, mask: 1 };
     let (mut done, mut coming) = (vec![0; 4096], ends(coming, 4096));
-    let r = desk::nestings::cb_run(&mut done, &mut coming, 0, idx, &[], book, records, m, switches, allowance, depth);
-    format!("{}, spent {}, d {}, idx {}, {}", r.number, r.spent, r.d, r.idx, slots(r.count, r.positions))
+    let r = desk::nestings::cb_run(
+        &mut done,
+        &mut coming,
+        0,
+        idx,
+        &[],
+        book,
+        records,
+        m,
+        switches,
+        allowance,
+        depth,
+    );
+    format!(
+        "{}, spent {}, d {}, idx {}, {}",
+        r.number,
+        r.spent,
+        r.d,
+        r.idx,
+        slots(r.count, r.positions)
+    )
 }
 
 fn desk_union(mut masks: [u64; 3], more: [u64; 3]) -> String {
@@ -196,7 +253,15 @@ fn desk_union(mut masks: [u64; 3], more: [u64; 3]) -> String {
 }
 
 fn desk_input(coming: &[u32], values: &[u32]) -> String {
-    let lookup = desk::walks::Lookup { gpos: false, zwnj: false, zwj: false, syllables: false, mask: 1, props: 0 };
-    let m = desk::matches::cb_match_input(&[], 0, coming, coming.len() / 4, 0, lookup, &[], 0, values);
+    let lookup = desk::walks::Lookup {
+        gpos: false,
+        zwnj: false,
+        zwj: false,
+        syllables: false,
+        mask: 1,
+        props: 0,
+    };
+    let m =
+        desk::matches::cb_match_input(&[], 0, coming, coming.len() / 4, 0, lookup, &[], 0, values);
     format!("{}, end {}, total {}, {}", m.number, m.end, m.total, slots(m.count, m.positions))
 }
