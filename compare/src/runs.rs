@@ -7,6 +7,7 @@
 pub mod corners;
 mod damage;
 pub mod draw;
+pub mod refusals;
 
 use self::draw::{draw_book, draw_case, draw_setup, style, Style};
 use crate::draw::glyphs;
@@ -40,7 +41,7 @@ pub struct Case {
 }
 
 /// What stands in a cell that is in neither part.
-const STALE: u32 = 0xDEAD_0001;
+pub const STALE: u32 = 0xDEAD_0001;
 
 impl Case {
     /// Of a text; `places` counts from the cursor on, and so does `end`.
@@ -64,6 +65,13 @@ impl Case {
         }
         let [done, coming] = rows;
         Self { setup, book, records, matched, allowance: 0, depth: 0, d, idx, done, coming }
+    }
+
+    /// The same with another word in the cells that are in neither part.
+    pub fn filled(mut self, word: u32) -> Self {
+        self.done[4 * self.d..].fill(word);
+        self.coming[..4 * self.idx].fill(word);
+        self
     }
 
     pub fn asked(&self) -> Asked<'_> {
@@ -391,6 +399,15 @@ impl Comparison for Asker {
         }
         for case in corners::chains() {
             self.ask("chains over each glyph of an alphabet", &case, None);
+        }
+        for case in corners::beside_the_text() {
+            self.ask("cells beside the text that would match", &case.filled(1), None);
+        }
+        for case in refusals::accepted() {
+            self.ask("runs that just aren't refused", &case, None);
+        }
+        for refused in refusals::refused() {
+            self.ask("each way to be refused, and two numbers at once", &refused.case, None);
         }
     }
 

@@ -4,11 +4,11 @@ use crate::walks::{all_settings, ALPHABET, PROPS};
 use original::glyphs::Glyph;
 use original::terms::Setup;
 
-fn plain() -> Setup {
+pub fn plain() -> Setup {
     Setup { mask: 1, ..Setup::default() }
 }
 
-fn glyphs(ids: &[u32]) -> Vec<Glyph> {
+pub fn glyphs(ids: &[u32]) -> Vec<Glyph> {
     ids.iter().map(|&id| [id, 1, 0, 0x0101]).collect()
 }
 
@@ -44,6 +44,23 @@ pub fn at_the_limit() -> Vec<Case> {
     let lower = text(1022);
     let below = Case::new(plain(), book, [&lower[..0], &lower], vec![0, 1, 1, 0], &[0, 1, 3], 5);
     [top, below].into_iter().map(|case| Case { allowance: 9, depth: 3, ..case }).collect()
+}
+
+/// Cells in neither part that would decide if they were looked at, where their
+/// words are 1: a chain asks for 1 behind its glyph, and what is done has another
+/// id. And Deep below after a text grew, which leaves more to come than there was.
+pub fn beside_the_text() -> Vec<Case> {
+    // 0: 2 where 1 stands before it, with record (0, 1). 1: 2 into 3.
+    let back = [3, 0, 0, 8, 2, 1, 1, 0, 0, 1, 0, 1, 1, 0, 0, 2, 2, 3];
+    // 0: 2 into 3, 3, 3. 1: 3 with record (0, 0).
+    let grows = [2, 0, 0, 5, 2, 3, 3, 3, 3, 3, 0, 0, 7, 3, 0, 0, 0, 1, 0, 0];
+    let over = |done: u32, book: &[u16], records: &[u16]| {
+        let text = [&glyphs(&[done])[..], &glyphs(&[2, 4])];
+        let case = Case::new(plain(), book.to_vec(), text, records.to_vec(), &[0], 1);
+        Case { allowance: 3, depth: 2, ..case }
+    };
+    let deep = Case { depth: 1, ..over(5, &grows, &[0, 0, 0, 1]) };
+    vec![over(1, &back, &[0, 0]), over(5, &back, &[0, 0]), deep]
 }
 
 /// What a chain looks for 7 in.

@@ -67,6 +67,11 @@ impl Line {
         let wide: Vec<u32> = words.iter().map(|&word| word.into()).collect();
         self.list(&wide)
     }
+    /// Another line behind this one, as a part of it.
+    pub fn line(mut self, line: Self) -> Self {
+        self.0.extend(line.0);
+        self
+    }
     /// Numbers of 64 bits.
     pub fn wide(mut self, numbers: &[u64]) -> Self {
         self.0.extend(numbers.iter().flat_map(|&n| [(n >> 32) as u32, n as u32]));
