@@ -7,10 +7,10 @@ use Rattle.replay_runs.proofs.holds.Statement.{statement}
 use Rattle.replay_runs.proofs.holds.Tie as tie
 
 abbrev Inv-loop : tie.InvT-loop
-Inv-loop row from words k₀ k = k ≤ length row
+Inv-loop row from words filler k₀ k = k ≤ length row
 
 abbrev μ-loop : tie.MeasureT-loop
-μ-loop row from words k₀ k = length row - k
+μ-loop row from words filler k₀ k = length row - k
 
 loop-holds : tie.Need-loop-holds Inv-loop μ-loop
 loop-holds c = search needs

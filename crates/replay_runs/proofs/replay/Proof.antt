@@ -11,11 +11,17 @@ Inv-loop words count tally₀ at₀ left₀ tally at left = left ≤ left₀
 abbrev μ-loop : tie.MeasureT-loop
 μ-loop words count tally₀ at₀ left₀ tally at left = left
 
+nothing-requires : tie.Need-nothing-requires Inv-loop μ-loop
+nothing-requires c κs = search needs
+
 loop-holds : tie.Need-loop-holds Inv-loop μ-loop
 loop-holds c = search needs
 
 returns : tie.Need-returns Inv-loop μ-loop
 returns c = search needs
+
+opening-at-requires : tie.Need-opening-at-requires Inv-loop μ-loop
+opening-at-requires c κs = search needs
 
 one-requires : tie.Need-one-requires Inv-loop μ-loop
 one-requires c κs = search needs
@@ -44,8 +50,10 @@ replay-spec =
     (tie.spec
     Inv-loop
     μ-loop
+    nothing-requires
     loop-holds
     returns
+    opening-at-requires
     one-requires
     word-requires
     counted-requires
