@@ -90,9 +90,24 @@ fn slots(count: usize, positions: [u16; 64]) -> String {
 // ---- the tape
 
 fn tape(bytes: &[u8]) -> String {
-    libc::READY.with(|ready| *ready.borrow_mut() = bytes.to_vec());
+    tape_in_reads(&[bytes])
+}
+
+// Each piece comes in a read of its own.
+fn tape_in_reads(pieces: &[&[u8]]) -> String {
+    libc::READY.with(|ready| *ready.borrow_mut() = pieces.iter().map(|p| p.to_vec()).collect());
     bench_tape::main();
     libc::WRITTEN.with(|written| String::from_utf8_lossy(&written.borrow()).replace('\n', " "))
+}
+
+fn tape_to_full_device(pieces: &[&[u8]]) -> String {
+    libc::FULL.with(|full| full.set(true));
+    tape_in_reads(pieces)
+}
+
+fn empty_lines(n: usize) -> String {
+    let answers = tape(&vec![b'\n'; n]);
+    format!("{} times FF", answers.matches("FF ").count())
 }
 
 fn feed(piece: &[u8], room: usize) -> String {

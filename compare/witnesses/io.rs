@@ -1,6 +1,11 @@
 // Stands in for the kit's `io`: what is read was laid ready in libc.rs, and what is written is gathered there.
-pub fn write_all(_: i32, bytes: &[u8]) {
-    super::libc::WRITTEN.with(|w| w.borrow_mut().extend_from_slice(bytes));
+pub fn write_all(file: i32, bytes: &[u8]) -> bool {
+    use super::libc;
+    if file == libc::STDOUT_FILENO && !bytes.is_empty() && libc::FULL.with(|full| full.get()) {
+        return false;
+    }
+    libc::WRITTEN.with(|w| w.borrow_mut().extend_from_slice(bytes));
+    true
 }
 
 pub fn print_decimal(file: i32, n: u64) {

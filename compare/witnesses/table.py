@@ -178,6 +178,11 @@ def tape(line):
 T1 = frame([5, 7])
 
 
+def reads(asked, *pieces):
+    """The tape's program, each piece in a read of its own."""
+    return call(asked, [f"&{rust(piece.encode())}[..]" for piece in pieces])
+
+
 # ---- books and runs
 
 KIND_1, KIND_2, KIND_3 = 1, 2, 3
@@ -804,6 +809,17 @@ TABLE = {
         "a_CR_ends_a_line": (tape(T1), "00000200020200000001", "FF"),
         "a_line_that_is_no_frame_answers_00": (tape(""), "FF", "00"),
         "feed_stops_though_an_answer_has_room": (call("feed", b"\n", "tape_answer::MOST_ANSWER"), 'place 1, "FF\\n"', 'place 0, ""'),
+    },
+    "bench_tape": {
+        "a_byte_is_written_before_the_answers": (tape(T1), "00000200020200000001", "\x0000000200020200000001"),
+        "a_failed_write_counts_as_written": (
+            reads("tape_to_full_device", T1 + "\n", T1 + "\n"),
+            "bench_tape: answers could not be written",
+            "bench_tape: answers could not be written bench_tape: answers could not be written",
+        ),
+        "a_last_line_of_one_byte_has_no_answer": (reads("tape_in_reads", "G"), "FF", ""),
+        "the_line_is_forgotten_after_a_piece": (reads("tape_in_reads", T1[:56], T1[56:] + "\n"), "00000200020200000001", "FF"),
+        "what_has_no_room_is_lost": ("empty_lines(65536)", "65536 times FF", "21756 times FF"),
     },
     "explain_line": {
         "g_is_taken_for_a_digit": (said('explain_line::why_none(b"0g")'), "NotDigit(1)", "OtherFault"),
