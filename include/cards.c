@@ -67,6 +67,18 @@ static cb_sought sought(uint8_t test, uint8_t syllable, uint32_t value) {
     return what;
 }
 
+/* ---- the words of a glyph */
+
+static void word_card(void) {
+    static const uint32_t wide = CB_WORD_2(0x1A5, 0x1C3, 0xFEDCBA98), narrow = CB_WORD_3(0x1E1, 0x1D2, 0x1C3, 0x1B4);
+    uint64_t much = 0x123456789ABCDEF;
+    signed char minus = -1;
+    EXPECT(wide == 0xA5C3BA98 && narrow == 0xE1D2C3B4);
+    EXPECT(CB_WORD_2(0, 0, 0x10008) == MARK && CB_WORD_2(much, 0, much) == 0xEF00CDEF);
+    EXPECT(CB_WORD_2(0, minus, 0) == 0xFF0000 && CB_WORD_3(0, 0, 0, minus) == 0xFF);
+    card("-", "a part of a glyph's word that is handed in too wide leaves its neighbours alone");
+}
+
 /* ---- input matching: K1 to K6, K15 */
 
 /* with done empty, the cursor at 0 and one value */
@@ -116,10 +128,10 @@ static void input_cards(void) {
 static void value_card(void) {
     uint32_t coming[CB_WORDS * 64], values[64];
     uint16_t positions[CB_SLOTS];
-    for (size_t i = 0; i < 64; i++) {
+    for (uint16_t i = 0; i < 64; i++) {
         put(coming, i, 7, 1, 0, ONE);
         values[i] = 7;
-        positions[i] = (uint16_t)i;
+        positions[i] = i;
     }
     cb_lookup l = plain(0);
     EXPECT(is_matched(cb_match_input(NULL, 0, 0, coming, CB_WORDS * 64, 64, 0, l, NULL, 0, CB_TEST_EQUAL, values, 63), 64, 64, 64, positions));
@@ -132,7 +144,10 @@ static void value_card(void) {
 /* ---- digests and allowances: K7, K8, K10 */
 
 static bool is_masks(const uint64_t *m, uint64_t a, uint64_t b, uint64_t c) { return m[0] == a && m[1] == b && m[2] == c; }
-static uint64_t bit(int place) { return (uint64_t)1 << place; }
+static uint64_t bit(int place) {
+    const uint64_t one = 1;
+    return one << place;
+}
 
 static void digest_cards(void) {
     uint64_t m[3] = {1, 2, 3}, o[3] = {4, 5, 6};
@@ -341,16 +356,17 @@ static const uint16_t doubles[8] = {2, 0, 0, 4, 2, 2, 2, 2}; /* lookup 0 turns 2
 static const uint16_t deletes[6] = {2, 0, 0, 2, 2, 0};       /* lookup 0 turns 2 into nothing */
 static const uint16_t record_1_0[2] = {1, 0};
 
-/* a glyph of the runs' text: id k + 1, and words 1 to 3 that no other has */
-static void put_sign(uint32_t *row, size_t place, size_t k) {
-    put(row, place, (uint32_t)k + 1, 1 | (uint32_t)(k + 1) << 8, CB_WORD_2(0, k + 1, CB_PROPS_BASE), CB_WORD_3(0, 0, 1, k + 1));
+/* a glyph of the runs' text: id k + 1, and words 1 to 3 that no other has; where k + 1 passes a byte, the rest is in a part that no run here asks */
+static void put_sign(uint32_t *row, size_t place, uint32_t k) {
+    uint32_t id = k + 1, over = id / 256;
+    put(row, place, id, 1 | id << 8, CB_WORD_2(0, id, CB_PROPS_BASE | over << 8), CB_WORD_3(0, 0, 1 + over, id));
 }
 
 /* d signs in done (0 to d - 1), and then signs 0, 1, 2, which end coming; every other cell holds something */
 static void lay_out(size_t d) {
     for (size_t i = 0; i < CB_RUN_WORDS; i++) done[i] = coming[i] = 0xA5A5A5A5;
-    for (size_t i = 0; i < d; i++) put_sign(done, i, i);
-    for (size_t k = 0; k < 3; k++) put_sign(coming, CURSOR + k, k);
+    for (uint32_t k = 0; k < d; k++) put_sign(done, k, k);
+    for (uint32_t k = 0; k < 3; k++) put_sign(coming, CURSOR + k, k);
 }
 
 static void keep_rows(void) {
@@ -369,9 +385,9 @@ static bool are_rows_kept(void) {
 
 /* every word of both rows: the text is the first d signs of done, then n glyphs, each with its id and the sign of which it has words
  * 1 to 3; `part` of all these stand in done, the others end coming, and every other cell is 0 */
-static bool is_text(size_t d, size_t n, const uint32_t *ids, const size_t *signs, size_t part) {
+static bool is_text(size_t d, size_t n, const uint32_t *ids, const uint32_t *signs, size_t part) {
     for (size_t i = 0; i < CB_RUN_WORDS; i++) done_before[i] = coming_before[i] = 0;
-    for (size_t i = 0; i < d + n; i++) {
+    for (uint32_t i = 0; i < d + n; i++) {
         uint32_t *row = i < part ? done_before : coming_before;
         size_t place = i < part ? i : CB_LIMIT - (d + n) + i;
         put_sign(row, place, i < d ? i : signs[i - d]);
@@ -404,7 +420,7 @@ static bool is_ran(cb_ran r, uint8_t number, uint32_t spent, size_t d, size_t id
 }
 
 static const uint32_t ids_123[3] = {1, 2, 3}, ids_1223[4] = {1, 2, 2, 3}, ids_13[2] = {1, 3};
-static const size_t of_012[3] = {0, 1, 2}, of_0112[4] = {0, 1, 1, 2}, of_02[2] = {0, 2};
+static const uint32_t of_012[3] = {0, 1, 2}, of_0112[4] = {0, 1, 1, 2}, of_02[2] = {0, 2};
 
 static void run_cards(void) {
     lay_out(0);
@@ -613,6 +629,7 @@ static void other_examples(void) {
 }
 
 int main(void) {
+    word_card();
     input_cards();
     digest_cards();
     allowance_cards();

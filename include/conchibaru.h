@@ -55,9 +55,16 @@ enum { CB_PROPS_BASE = 2, CB_PROPS_LIGATURE = 4, CB_PROPS_MARK = 8 }; /* and the
 /* A lookup's props: these, the attachment class asked in 0xFF00, and the index of the filtering set in the high half. */
 enum { CB_IGNORE_BASES = 2, CB_IGNORE_LIGATURES = 4, CB_IGNORE_MARKS = 8, CB_USE_FILTERING_SET = 16 };
 
-#define CB_WORD_2(flags, syllable, props) ((uint32_t)(flags) << 24 | (uint32_t)(syllable) << 16 | (uint32_t)(props))
+/* A glyph's last two words, from their parts, in constants too. Of each part only the bits that it has in the word are taken, so that none reaches
+ * its neighbour: 8 bits, of props 16. */
+#ifdef __cplusplus
+#define CB_PART(value, bits, shift) ((static_cast<uint32_t>(value) & bits) << shift)
+#else
+#define CB_PART(value, bits, shift) (((uint32_t)(value) & bits) << shift)
+#endif
+#define CB_WORD_2(flags, syllable, props) (CB_PART(flags, 0xFFu, 24) | CB_PART(syllable, 0xFFu, 16) | CB_PART(props, 0xFFFFu, 0))
 #define CB_WORD_3(id, component, count, in_ligation) \
-    ((uint32_t)(id) << 24 | (uint32_t)(component) << 16 | (uint32_t)(count) << 8 | (uint32_t)(in_ligation))
+    (CB_PART(id, 0xFFu, 24) | CB_PART(component, 0xFFu, 16) | CB_PART(count, 0xFFu, 8) | CB_PART(in_ligation, 0xFFu, 0))
 
 /* ---- numbers
  *
