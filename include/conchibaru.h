@@ -17,7 +17,7 @@
 #define CONCHIBARU_H
 
 /* The second number moves where a user must change something, the third where not; docs/landings says what. */
-#define CB_VERSION "0.2.0"
+#define CB_VERSION "0.3.0"
 
 #include <stddef.h>
 #include <stdint.h>

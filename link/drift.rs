@@ -254,7 +254,7 @@ fn read_desk(words: &[String]) -> Option<(Said, Vec<usize>)> {
     Some((said, r.read))
 }
 
-/// The crate: its extern block and the structs beside it, and the numbers of its enums.
+/// The crate: its extern block and the structs beside it, and the numbers of its enums, of refusals as in `Refusal::Shape => 1`.
 fn read_crate(words: &[String]) -> Option<(Said, Vec<usize>)> {
     let mut said = Said::default();
     let mut r = Reader::new(words);
@@ -274,6 +274,12 @@ fn read_crate(words: &[String]) -> Option<(Said, Vec<usize>)> {
                 rust_fn(&mut r, &mut said)?;
                 r.need(";")?;
             }
+        } else if r.starts(&["Refusal", "::"]) && r.peek(3) == "=>" {
+            if let Some(value) = number(r.peek(4)) {
+                r.read.extend([r.at + 2, r.at + 4]);
+                said.numbers.insert(number_name("Refusal", r.peek(2)), value);
+            }
+            r.pass();
         } else if r.starts(&["pub", "enum"]) {
             let name = r.peek(2);
             r.at += 3;

@@ -1,8 +1,11 @@
 //! The library's calls as C sees them: the same declarations as include/conchibaru.h, in the same words, which link/drift.rs
 //! checks. Every pointer stands beside its length, or has an array's type.
 //!
+//! The declarations are whole, so that they can be compared: of what the crate writes as a constant only its tests ask the library.
+//!
 //! A call is sound where its pointers come from slices and arrays with those lengths, and where what it writes to is lent as
 //! `&mut`: it is proved to stay within them, and keeps none.
+#![cfg_attr(not(test), allow(dead_code))]
 
 #[repr(C)]
 #[derive(Clone, Copy)]

@@ -32,10 +32,9 @@ pub struct SetDigest {
 // lent to it alone.
 impl SetDigest {
     /// The digest of no glyph.
-    pub fn new() -> Self {
-        let mut masks = [0; 3];
-        unsafe { c::cb_digest_new(&mut masks) };
-        Self { masks }
+    #[must_use]
+    pub const fn new() -> Self {
+        Self { masks: [0; 3] } // what cb_digest_new writes
     }
 
     /// The digest that admits every glyph.
@@ -43,10 +42,9 @@ impl SetDigest {
     /// ```
     /// assert_eq!(conchibaru::SetDigest::full().masks, [u64::MAX; 3]);
     /// ```
-    pub fn full() -> Self {
-        let mut masks = [0; 3];
-        unsafe { c::cb_digest_full(&mut masks) };
-        Self { masks }
+    #[must_use]
+    pub const fn full() -> Self {
+        Self { masks: [u64::MAX; 3] } // what cb_digest_full writes
     }
 
     /// Empties it.
@@ -83,11 +81,13 @@ impl SetDigest {
     }
 
     /// Whether the glyph may be in the set: false only if it was never added.
+    #[must_use]
     pub fn may_have(&self, g: u32) -> bool {
         unsafe { c::cb_digest_may_have(&self.masks, g) }
     }
 
     /// Whether the two may have a glyph in common: false only if no glyph is admitted by both.
+    #[must_use]
     pub fn may_intersect(&self, other: &Self) -> bool {
         unsafe { c::cb_digest_may_intersect(&self.masks, &other.masks) }
     }
@@ -111,13 +111,15 @@ pub struct RuleSetDigest {
 // SAFETY of each call below: it takes numbers alone.
 impl RuleSetDigest {
     /// The digest of no value.
-    pub fn new() -> Self {
-        Self { mask: unsafe { c::cb_rule_set_digest_new() } }
+    #[must_use]
+    pub const fn new() -> Self {
+        Self { mask: 0 } // what cb_rule_set_digest_new answers
     }
 
     /// The digest that admits every value.
-    pub fn full() -> Self {
-        Self { mask: unsafe { c::cb_rule_set_digest_full() } }
+    #[must_use]
+    pub const fn full() -> Self {
+        Self { mask: u64::MAX } // what cb_rule_set_digest_full answers
     }
 
     /// Adds a value.
@@ -126,12 +128,35 @@ impl RuleSetDigest {
     }
 
     /// Whether every value is admitted.
+    #[must_use]
     pub fn is_full(self) -> bool {
         unsafe { c::cb_rule_set_digest_is_full(self.mask) }
     }
 
     /// Whether the value may have been added.
+    #[must_use]
     pub fn may_have(self, value: u32) -> bool {
         unsafe { c::cb_rule_set_digest_may_have(self.mask, value) }
+    }
+}
+
+#[cfg(test)]
+mod tests {
+    use super::{RuleSetDigest, SetDigest};
+    use crate::c;
+
+    /// What is written here as a constant is the library's answer.
+    #[test]
+    fn the_new_and_the_full_digest_are_the_librarys() {
+        let (mut none, mut all) = ([7; 3], [7; 3]);
+        // SAFETY: the masks are lent to each call alone; the others take and give numbers.
+        unsafe {
+            c::cb_digest_new(&mut none);
+            c::cb_digest_full(&mut all);
+            assert_eq!(RuleSetDigest::new().mask, c::cb_rule_set_digest_new());
+            assert_eq!(RuleSetDigest::full().mask, c::cb_rule_set_digest_full());
+        }
+        assert_eq!((SetDigest::new().masks, SetDigest::full().masks), (none, all));
+        assert_eq!((SetDigest::default(), RuleSetDigest::default()), (SetDigest::new(), RuleSetDigest::new()));
     }
 }

@@ -73,12 +73,15 @@ pub struct Glyph {
 
 impl Glyph {
     /// A glyph of mask 1 that counts as one component; everything else 0.
-    pub fn new(id: u32) -> Self {
-        Self { id, mask: 1, count: 1, count_in_ligation: 1, ..Self::default() }
+    #[must_use]
+    pub const fn new(id: u32) -> Self {
+        let (flags, syllable, props, ligature_id, component) = (0, 0, 0, 0, 0);
+        Self { id, mask: 1, flags, syllable, props, ligature_id, component, count: 1, count_in_ligation: 1 }
     }
 
     /// Its four words.
-    pub fn words(self) -> [u32; WORDS] {
+    #[must_use]
+    pub const fn words(self) -> [u32; WORDS] {
         let [high, low] = self.props.to_be_bytes();
         [
             self.id,
@@ -89,7 +92,8 @@ impl Glyph {
     }
 
     /// The glyph that four words are; any are one.
-    pub fn from_words(words: [u32; WORDS]) -> Self {
+    #[must_use]
+    pub const fn from_words(words: [u32; WORDS]) -> Self {
         let [flags, syllable, high, low] = words[2].to_be_bytes();
         let [ligature_id, component, count, count_in_ligation] = words[3].to_be_bytes();
         let props = u16::from_be_bytes([high, low]);
@@ -98,6 +102,13 @@ impl Glyph {
 }
 
 /// The words of some glyphs: a row, where they are at most [`LIMIT`].
+///
+/// ```
+/// use conchibaru::{row, Glyph};
+///
+/// assert_eq!(row(&[Glyph::new(5), Glyph::new(7)]), [5, 1, 0, 0x101, 7, 1, 0, 0x101]);
+/// ```
+#[must_use]
 pub fn row(glyphs: &[Glyph]) -> Vec<u32> {
     glyphs.iter().flat_map(|glyph| glyph.words()).collect()
 }

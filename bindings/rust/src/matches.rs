@@ -7,7 +7,7 @@ use std::fmt;
 pub const MAX_CONTEXT_LENGTH: usize = 64;
 
 /// A text: of `done` the first `d` glyphs, and `coming`, of which `len` glyphs count, with the cursor `idx`.
-#[derive(Clone, Copy, Debug)]
+#[derive(Clone, Copy, Debug, PartialEq, Eq, Hash)]
 pub struct Text<'a> {
     /// The row of glyphs that are done.
     pub done: &'a [u32],
@@ -23,7 +23,8 @@ pub struct Text<'a> {
 
 impl<'a> Text<'a> {
     /// Nothing done, all of a row coming, and the cursor at its first glyph.
-    pub fn coming(coming: &'a [u32]) -> Self {
+    #[must_use]
+    pub const fn coming(coming: &'a [u32]) -> Self {
         Self { done: &[], d: 0, coming, len: coming.len() / crate::WORDS, idx: 0 }
     }
 }
@@ -43,6 +44,7 @@ pub struct Match {
 
 impl Match {
     /// The positions that are counted.
+    #[must_use]
     pub fn positions(&self) -> &[u16] {
         &self.slots[..self.count.min(MAX_CONTEXT_LENGTH)]
     }
@@ -56,6 +58,7 @@ impl fmt::Debug for Match {
 }
 
 /// An input match's answer.
+#[must_use = "a call that matches nothing says so in its answer alone"]
 #[derive(Clone, Copy, Debug, PartialEq, Eq, Hash)]
 pub enum InputMatch {
     /// Every value was matched.
@@ -70,7 +73,8 @@ pub enum InputMatch {
 
 impl InputMatch {
     /// Document 01's number: 0, 4, 5, or the refusal's.
-    pub fn number(&self) -> u8 {
+    #[must_use]
+    pub const fn number(&self) -> u8 {
         match self {
             Self::Matched(_) => 0,
             Self::Lost(_) => 4,
@@ -99,6 +103,7 @@ impl InputMatch {
 }
 
 /// A lookahead or backtrack match's answer.
+#[must_use = "a call that matches nothing says so in its answer alone"]
 #[derive(Clone, Copy, Debug, PartialEq, Eq, Hash)]
 pub enum ContextMatch {
     /// Every value was matched: ahead the last place + 1, back the last place.
@@ -111,7 +116,8 @@ pub enum ContextMatch {
 
 impl ContextMatch {
     /// Document 01's number: 0, 4, or the refusal's.
-    pub fn number(self) -> u8 {
+    #[must_use]
+    pub const fn number(self) -> u8 {
         match self {
             Self::Matched(_) => 0,
             Self::Lost(_) => 4,
@@ -201,4 +207,19 @@ pub fn match_lookahead(text: &Text, start: usize, lookup: &Lookup, sets: &[u16],
 /// ```
 pub fn match_backtrack(text: &Text, lookup: &Lookup, sets: &[u16], test: Test, values: &[u32]) -> ContextMatch {
     ContextMatch::of(call!(cb_match_backtrack, text, [], lookup, sets, test, values))
+}
+
+#[cfg(test)]
+mod tests {
+    use super::{c, ContextMatch, InputMatch, MAX_CONTEXT_LENGTH};
+
+    /// Any number is an answer, a newer library's too, and goes to a run as it came.
+    #[test]
+    fn each_number_is_told() {
+        for number in 0..=u8::MAX {
+            let input = InputMatch::of(c::Matched { number, total: 0, end: 0, count: 0, positions: [0; MAX_CONTEXT_LENGTH] });
+            assert_eq!((input.number(), input.in_c().number), (number, number));
+            assert_eq!(ContextMatch::of(c::Placed { number, place: 0 }).number(), number);
+        }
+    }
 }

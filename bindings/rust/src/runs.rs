@@ -32,7 +32,7 @@ impl Default for Switches {
 }
 
 /// What a run is given besides its text.
-#[derive(Clone, Copy, Debug)]
+#[derive(Clone, Copy, Debug, PartialEq, Eq, Hash)]
 pub struct Given<'a> {
     /// Mark sets, in pairs of set and glyph.
     pub sets: &'a [u16],
@@ -50,7 +50,8 @@ pub struct Given<'a> {
     pub depth: usize,
 }
 
-/// How a run ended.
+/// How a run ended. Later versions may have more endings.
+#[non_exhaustive]
 #[derive(Clone, Copy, Debug, PartialEq, Eq, Hash)]
 pub enum Ending {
     /// Every record that was due was applied.
@@ -65,7 +66,8 @@ pub enum Ending {
 
 impl Ending {
     /// Document 01's number; Finished has 0.
-    pub fn number(self) -> u8 {
+    #[must_use]
+    pub const fn number(self) -> u8 {
         self as u8
     }
 }
@@ -89,6 +91,7 @@ pub struct Run {
 
 impl Run {
     /// The positions that are counted.
+    #[must_use]
     pub fn positions(&self) -> &[u16] {
         &self.slots[..self.count.min(MAX_CONTEXT_LENGTH)]
     }
@@ -104,20 +107,26 @@ impl fmt::Debug for Run {
 }
 
 /// A run's answer, or why there was none.
+#[must_use = "a run that is refused, or that ended early, says so in its answer alone"]
 #[derive(Clone, Copy, Debug, PartialEq, Eq, Hash)]
 pub enum RunAnswer {
     /// It ran, and both rows hold the text and 0 elsewhere.
     Ended(Run),
     /// No word was changed.
     Refused(Refusal),
+    /// A number that this crate has no name for, neither of an ending nor of a refusal: the library that was linked is newer than the
+    /// crate. Words may have been changed.
+    Unknown(u8),
 }
 
 impl RunAnswer {
     /// Document 01's number: the ending's or the refusal's.
-    pub fn number(&self) -> u8 {
+    #[must_use]
+    pub const fn number(&self) -> u8 {
         match self {
             Self::Ended(run) => run.ending.number(),
             Self::Refused(why) => why.number(),
+            Self::Unknown(number) => *number,
         }
     }
 
@@ -127,7 +136,12 @@ impl RunAnswer {
             8 => Ending::Short,
             9 => Ending::Deep,
             10 => Ending::Full,
-            number => return Self::Refused(Refusal::of(number)),
+            number => {
+                return match Refusal::of(number) {
+                    Refusal::Unknown(number) => Self::Unknown(number),
+                    why => Self::Refused(why),
+                }
+            }
         };
         let c::Ran { spent, d, idx, count, positions, .. } = ran;
         Self::Ended(Run { ending, spent, d, idx, count, slots: positions })
@@ -143,6 +157,7 @@ impl RunAnswer {
 /// assert!(book_reads(&[]));
 /// assert!(!book_reads(&[2, 0, 0, 4, 2, 2, 2]));
 /// ```
+#[must_use]
 pub fn book_reads(book: &[u16]) -> bool {
     // SAFETY: a slice with its length, which is read.
     unsafe { c::cb_book_reads(book.as_ptr(), book.len()) }
@@ -195,4 +210,20 @@ pub fn run(done: &mut [u32], coming: &mut [u32], d: usize, idx: usize, given: &G
             *depth,
         )
     })
+}
+
+#[cfg(test)]
+mod tests {
+    use super::{c, RunAnswer, MAX_CONTEXT_LENGTH};
+
+    /// Any number is an answer, a newer library's too.
+    #[test]
+    fn each_number_is_told() {
+        for number in 0..=u8::MAX {
+            let answer = RunAnswer::of(c::Ran { number, spent: 0, d: 0, idx: 0, count: 0, positions: [0; MAX_CONTEXT_LENGTH] });
+            assert_eq!(answer.number(), number);
+            let named = [0, 1, 2, 3, 6, 7, 8, 9, 10, 11, 12].contains(&number);
+            assert_eq!(answer == RunAnswer::Unknown(number), !named, "{answer:?}");
+        }
+    }
 }

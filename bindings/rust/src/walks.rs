@@ -57,7 +57,8 @@ pub enum Role {
     Context,
 }
 
-/// How a value is tested.
+/// How a value is tested. Later versions may have more ways.
+#[non_exhaustive]
 #[derive(Clone, Copy, Debug, PartialEq, Eq, Hash)]
 pub enum Test {
     /// The glyph's id equals it: harfrust's `match_glyph`.
@@ -81,7 +82,8 @@ pub struct Sought {
 
 impl Sought {
     /// A glyph of this id, of any syllable.
-    pub fn id(value: u32) -> Self {
+    #[must_use]
+    pub const fn id(value: u32) -> Self {
         Self { test: Test::Equal, value, syllable: 0 }
     }
 
@@ -124,6 +126,7 @@ pub enum Verdict {
 }
 
 /// A walk's answer.
+#[must_use = "a walk that finds nothing says so in its answer alone"]
 #[derive(Clone, Copy, Debug, PartialEq, Eq, Hash)]
 pub enum Walked {
     /// A glyph that matches, at this place.
@@ -138,7 +141,8 @@ pub enum Walked {
 
 impl Walked {
     /// Document 01's number: 0, 4, or the refusal's.
-    pub fn number(self) -> u8 {
+    #[must_use]
+    pub const fn number(self) -> u8 {
         match self {
             Self::Found(_) => 0,
             Self::Stopped(_) | Self::RanOut(_) => 4,
@@ -273,4 +277,19 @@ pub fn backward(row: &[u32], place: usize, lookup: &Lookup, role: Role, sought: 
     let context = role == Role::Context;
     let (words, (p, n)) = (row.as_ptr(), (sets.as_ptr(), sets.len()));
     Walked::of(unsafe { c::cb_backward(words, row.len(), place, lookup.in_c(), context, sought.in_c(), p, n) })
+}
+
+#[cfg(test)]
+mod tests {
+    use super::{c, said, Walked};
+    use crate::Refusal;
+
+    /// Any number is an answer, a newer library's too.
+    #[test]
+    fn each_number_is_told() {
+        for number in 0..=u8::MAX {
+            assert_eq!(Walked::of(c::Step { number, ranout: false, place: 0 }).number(), number);
+            assert_eq!(said(c::Said { number, said: 2 }).map_err(Refusal::number), if number == 0 { Ok(2) } else { Err(number) });
+        }
+    }
 }

@@ -197,7 +197,7 @@ fn refused_runs_change_no_word() {
     let given = given(&DOUBLES, good, 1, 1);
     let mut refused = |words: usize, idx: usize, given: Given| match run(&mut done[..words], &mut coming, 0, idx, &given) {
         RunAnswer::Refused(why) => why,
-        RunAnswer::Ended(ran) => panic!("{ran:?}"),
+        other => panic!("{other:?}"),
     };
     // Wrong in everything; then one thing after another is put right.
     let mut bad = Given { records: &[1], matched: InputMatch::Lost(2), book: &DOUBLES[..7], depth: 65, ..given };
