@@ -4,12 +4,16 @@ use crate::words::ROOM;
 use matching::InputAnswer;
 use matching::InputMatch;
 use matching::Refusal;
+ghost use Prim.Native.Nat.{_≤_};
 
 fn wide(x: u16) -> u32 {
     x as u32
 }
 
-fn positions(text: &mut [u8; ROOM], from: usize, count: usize, places: &[u16]) -> usize {
+fn positions(text: &mut [u8; ROOM], from: usize, count: usize, places: &[u16]) -> usize
+    requires { ⌜ from ≤ 100 ⌝ }
+    ensures { λ r. ⌜ r ≤ 100 ⌝ }
+{
     let mut at = from;
     let mut i = 0;
     while i < places.len() {
@@ -24,7 +28,10 @@ fn positions(text: &mut [u8; ROOM], from: usize, count: usize, places: &[u16]) -
     at
 }
 
-fn matched(text: &mut [u8; ROOM], at: usize, end: usize, total: u16) -> usize {
+fn matched(text: &mut [u8; ROOM], at: usize, end: usize, total: u16) -> usize
+    requires { ⌜ at ≤ 100 ⌝ }
+    ensures { λ r. ⌜ r ≤ 100 ⌝ }
+{
     let at = words::say(text, at, b"matched, end ");
     let at = words::number(text, at, (end % 65536) as u32);
     let at = words::say(text, at, b", total ");
@@ -32,7 +39,10 @@ fn matched(text: &mut [u8; ROOM], at: usize, end: usize, total: u16) -> usize {
     words::say(text, at, b", positions")
 }
 
-fn refused(text: &mut [u8; ROOM], at: usize, why: Refusal) -> usize {
+fn refused(text: &mut [u8; ROOM], at: usize, why: Refusal) -> usize
+    requires { ⌜ at ≤ 100 ⌝ }
+    ensures { λ r. ⌜ r ≤ 100 ⌝ }
+{
     match why {
         Refusal::Shape => words::say(text, at, b"refusal 1: a row or a length"),
         Refusal::Cursor => words::say(
@@ -45,7 +55,10 @@ fn refused(text: &mut [u8; ROOM], at: usize, why: Refusal) -> usize {
     }
 }
 
-fn lost(text: &mut [u8; ROOM], at: usize, extent: usize) -> usize {
+fn lost(text: &mut [u8; ROOM], at: usize, extent: usize) -> usize
+    requires { ⌜ at ≤ 100 ⌝ }
+    ensures { λ r. ⌜ r ≤ 100 ⌝ }
+{
     let at = words::say(text, at, b"refusal 4: a walk stopped or ran out, extent ");
     words::number(text, at, (extent % 65536) as u32)
 }
@@ -76,7 +89,10 @@ pub(crate) fn in_words(text: &mut [u8; ROOM], m: InputMatch) {
 }
 
 // The answer's digits, as many as fit a line, and the others in the next.
-fn digits(text: &mut [u8; ROOM], from: usize, answer: &[u8]) -> usize {
+fn digits(text: &mut [u8; ROOM], from: usize, answer: &[u8]) -> usize
+    requires { ⌜ from ≤ 100 ⌝ }
+    ensures { λ r. ⌜ r ≤ 100 ⌝ }
+{
     let mut at = from;
     let mut i = 0;
     while i < answer.len() {

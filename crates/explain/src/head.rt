@@ -5,8 +5,13 @@ use explain_line::LineFault;
 use tape_frame::Head;
 use verdict::Settings;
 use verdict::Table;
+ghost use Prim.Native.Nat.{_≤_};
+ghost use lib.ListN.{length};
 
-fn table(text: &mut [u8; ROOM], at: usize, t: Table) -> usize {
+fn table(text: &mut [u8; ROOM], at: usize, t: Table) -> usize
+    requires { ⌜ at ≤ 100 ⌝ }
+    ensures { λ r. ⌜ r ≤ 100 ⌝ }
+{
     match t {
         Table::Gsub => words::say(text, at, b"GSUB"),
         Table::Gpos => words::say(text, at, b"GPOS"),
@@ -14,7 +19,11 @@ fn table(text: &mut [u8; ROOM], at: usize, t: Table) -> usize {
 }
 
 // The words, where they hold.
-fn say_if(text: &mut [u8; ROOM], at: usize, holds: bool, words: &[u8]) -> usize {
+fn say_if(text: &mut [u8; ROOM], at: usize, holds: bool, words: &[u8]) -> usize
+    requires { ⌜ at ≤ 100 ⌝ }
+    requires { ⌜ length (now words) ≤ 96 ⌝ }
+    ensures { λ r. ⌜ r ≤ 100 ⌝ }
+{
     if holds {
         words::say(text, at, words)
     } else {
@@ -22,14 +31,19 @@ fn say_if(text: &mut [u8; ROOM], at: usize, holds: bool, words: &[u8]) -> usize 
     }
 }
 
-fn settings(text: &mut [u8; ROOM], at: usize, s: Settings) -> usize {
+fn settings(text: &mut [u8; ROOM], at: usize, s: Settings) -> usize
+    requires { ⌜ at ≤ 100 ⌝ }
+    ensures { λ r. ⌜ r ≤ 100 ⌝ }
+{
     let at = say_if(text, at, s.zwnj, b" auto-ZWNJ");
     let at = say_if(text, at, s.zwj, b" auto-ZWJ");
     let at = say_if(text, at, s.syllables, b" syllables");
     say_if(text, at, !(s.zwnj | s.zwj | s.syllables), b" none")
 }
 
-fn line_of(text: &mut [u8; ROOM], line: u64) -> usize {
+fn line_of(text: &mut [u8; ROOM], line: u64) -> usize
+    ensures { λ r. ⌜ r ≤ 100 ⌝ }
+{
     let at = words::say(text, 0, b"line ");
     words::number(text, at, (line % 4294967296) as u32)
 }
@@ -45,7 +59,10 @@ fn opening(text: &mut [u8; ROOM], line: u64, s: Settings) {
 }
 
 // The set that the lookup names, else the attachment class that it asks.
-fn marks(text: &mut [u8; ROOM], at: usize, props: u32) -> usize {
+fn marks(text: &mut [u8; ROOM], at: usize, props: u32) -> usize
+    requires { ⌜ at ≤ 100 ⌝ }
+    ensures { λ r. ⌜ r ≤ 100 ⌝ }
+{
     if props / 16 % 2 == 1 {
         let at = words::say(text, at, b" uses mark set ");
         return words::number(text, at, props / 65536);
@@ -60,7 +77,10 @@ fn marks(text: &mut [u8; ROOM], at: usize, props: u32) -> usize {
     words::say(text, at, b" and nothing else")
 }
 
-fn classes(text: &mut [u8; ROOM], at: usize, props: u32) -> usize {
+fn classes(text: &mut [u8; ROOM], at: usize, props: u32) -> usize
+    requires { ⌜ at ≤ 100 ⌝ }
+    ensures { λ r. ⌜ r ≤ 100 ⌝ }
+{
     let at = say_if(text, at, props / 2 % 2 == 1, b" ignores bases,");
     let at = say_if(text, at, props / 4 % 2 == 1, b" ignores ligatures,");
     say_if(text, at, props / 8 % 2 == 1, b" ignores marks,")
@@ -75,7 +95,11 @@ fn lookup(text: &mut [u8; ROOM], props: u32) {
     words::end(text, at);
 }
 
-fn counted(text: &mut [u8; ROOM], at: usize, name: &[u8], n: usize) -> usize {
+fn counted(text: &mut [u8; ROOM], at: usize, name: &[u8], n: usize) -> usize
+    requires { ⌜ at ≤ 100 ⌝ }
+    requires { ⌜ length (now name) ≤ 96 ⌝ }
+    ensures { λ r. ⌜ r ≤ 100 ⌝ }
+{
     let at = words::say(text, at, name);
     words::number(text, at, (n % 65536) as u32)
 }
@@ -96,7 +120,10 @@ pub(crate) fn tell(text: &mut [u8; ROOM], line: u64, h: Head) {
     sizes(text, h.mask, h.done, h.coming, h.cursor);
 }
 
-fn list(text: &mut [u8; ROOM], from: usize, values: &[u32]) -> usize {
+fn list(text: &mut [u8; ROOM], from: usize, values: &[u32]) -> usize
+    requires { ⌜ from ≤ 100 ⌝ }
+    ensures { λ r. ⌜ r ≤ 100 ⌝ }
+{
     let mut at = from;
     let mut i = 0;
     while i < values.len() {
@@ -115,7 +142,10 @@ pub(crate) fn values(text: &mut [u8; ROOM], asked: &[u32]) {
     words::end(text, at);
 }
 
-fn fault(text: &mut [u8; ROOM], at: usize, why: LineFault) -> usize {
+fn fault(text: &mut [u8; ROOM], at: usize, why: LineFault) -> usize
+    requires { ⌜ at ≤ 100 ⌝ }
+    ensures { λ r. ⌜ r ≤ 100 ⌝ }
+{
     match why {
         LineFault::TooLong => words::say(text, at, b"more digits than the longest frame has"),
         LineFault::NotDigit(i) => counted(text, at, b"no digit stands at place ", i),

@@ -8,6 +8,7 @@ use explain_glyph::Turn;
 use glyph::Glyph;
 use verdict::MayMatch;
 use verdict::MaySkip;
+ghost use Prim.Native.Nat.{_≤_};
 
 // The columns: the numbers end before theirs, the words begin at theirs.
 const PLACE: usize = 5;
@@ -33,7 +34,10 @@ pub(crate) fn titles(text: &mut [u8; ROOM]) {
     words::end(text, at);
 }
 
-fn class(text: &mut [u8; ROOM], at: usize, props: u16) -> usize {
+fn class(text: &mut [u8; ROOM], at: usize, props: u16) -> usize
+    requires { ⌜ at ≤ 100 ⌝ }
+    ensures { λ r. ⌜ r ≤ 100 ⌝ }
+{
     match props / 2 % 8 {
         0 => words::say(text, at, b"none"),
         1 => words::say(text, at, b"base"),
@@ -47,7 +51,9 @@ fn class(text: &mut [u8; ROOM], at: usize, props: u16) -> usize {
 }
 
 // Place, id and class.
-fn opening(text: &mut [u8; ROOM], place: usize, g: Glyph) -> usize {
+fn opening(text: &mut [u8; ROOM], place: usize, g: Glyph) -> usize
+    ensures { λ r. ⌜ r ≤ 100 ⌝ }
+{
     let at = words::right(text, 0, PLACE, (place % 65536) as u32);
     let at = words::right(text, at, ID, g.id);
     let at = words::pad(text, at, CLASS);
@@ -61,7 +67,10 @@ pub(crate) fn cursor(text: &mut [u8; ROOM], place: usize, g: Glyph) {
     words::end(text, at);
 }
 
-fn skip(text: &mut [u8; ROOM], at: usize, s: MaySkip) -> usize {
+fn skip(text: &mut [u8; ROOM], at: usize, s: MaySkip) -> usize
+    requires { ⌜ at ≤ 100 ⌝ }
+    ensures { λ r. ⌜ r ≤ 100 ⌝ }
+{
     match s {
         MaySkip::No => words::say(text, at, b"No"),
         MaySkip::Yes => words::say(text, at, b"Yes"),
@@ -69,7 +78,10 @@ fn skip(text: &mut [u8; ROOM], at: usize, s: MaySkip) -> usize {
     }
 }
 
-fn may(text: &mut [u8; ROOM], at: usize, m: MayMatch) -> usize {
+fn may(text: &mut [u8; ROOM], at: usize, m: MayMatch) -> usize
+    requires { ⌜ at ≤ 100 ⌝ }
+    ensures { λ r. ⌜ r ≤ 100 ⌝ }
+{
     match m {
         MayMatch::No => words::say(text, at, b"No"),
         MayMatch::Yes => words::say(text, at, b"Yes"),
@@ -77,50 +89,66 @@ fn may(text: &mut [u8; ROOM], at: usize, m: MayMatch) -> usize {
     }
 }
 
-fn outside(text: &mut [u8; ROOM], at: usize, asked: u32) -> usize {
-    let at = words::say(text, at, b"not in mark set ");
+// Each part of a reason begins with a blank, so that it may begin a line too.
+fn outside(text: &mut [u8; ROOM], at: usize, asked: u32) -> usize
+    requires { ⌜ at ≤ 100 ⌝ }
+    ensures { λ r. ⌜ r ≤ 100 ⌝ }
+{
+    let at = words::reason(text, at, b" not in mark set ");
     words::number(text, at, asked / 65536)
 }
 
-fn other_class(text: &mut [u8; ROOM], at: usize, asked: u32, props: u16) -> usize {
-    let at = words::say(text, at, b"class ");
+fn other_class(text: &mut [u8; ROOM], at: usize, asked: u32, props: u16) -> usize
+    requires { ⌜ at ≤ 100 ⌝ }
+    ensures { λ r. ⌜ r ≤ 100 ⌝ }
+{
+    let at = words::reason(text, at, b" class ");
     let at = words::number(text, at, (props / 256) as u32);
-    let at = words::say(text, at, b", asked ");
+    let at = words::reason(text, at, b", asked ");
     words::number(text, at, asked / 256 % 256)
 }
 
-fn why_skip(text: &mut [u8; ROOM], at: usize, why: SkipReason, asked: u32, props: u16) -> usize {
+fn why_skip(text: &mut [u8; ROOM], at: usize, why: SkipReason, asked: u32, props: u16) -> usize
+    requires { ⌜ at ≤ 100 ⌝ }
+    ensures { λ r. ⌜ r ≤ 100 ⌝ }
+{
     match why {
-        SkipReason::IgnoredBase => words::say(text, at, b"flag 2 ignores bases"),
-        SkipReason::IgnoredLigature => words::say(text, at, b"flag 4 ignores ligatures"),
-        SkipReason::IgnoredMark => words::say(text, at, b"flag 8 ignores marks"),
+        SkipReason::IgnoredBase => words::reason(text, at, b" flag 2 ignores bases"),
+        SkipReason::IgnoredLigature => words::reason(text, at, b" flag 4 ignores ligatures"),
+        SkipReason::IgnoredMark => words::reason(text, at, b" flag 8 ignores marks"),
         SkipReason::OutsideSet => outside(text, at, asked),
         SkipReason::OtherClass => other_class(text, at, asked, props),
-        SkipReason::DefaultIgnorable => words::say(text, at, b"default ignorable"),
-        SkipReason::KeptZwnj => words::say(text, at, b"a ZWNJ isn't ignored"),
-        SkipReason::KeptZwj => words::say(text, at, b"a ZWJ isn't ignored"),
-        SkipReason::KeptHidden => words::say(text, at, b"a hidden glyph isn't ignored"),
-        SkipReason::NotIgnorable => words::say(text, at, b"not ignorable"),
+        SkipReason::DefaultIgnorable => words::reason(text, at, b" default ignorable"),
+        SkipReason::KeptZwnj => words::reason(text, at, b" a ZWNJ isn't ignored"),
+        SkipReason::KeptZwj => words::reason(text, at, b" a ZWJ isn't ignored"),
+        SkipReason::KeptHidden => words::reason(text, at, b" a hidden glyph isn't ignored"),
+        SkipReason::NotIgnorable => words::reason(text, at, b" not ignorable"),
     }
 }
 
-fn why_match(text: &mut [u8; ROOM], at: usize, how: MatchReason) -> usize {
+fn why_match(text: &mut [u8; ROOM], at: usize, how: MatchReason) -> usize
+    requires { ⌜ at ≤ 100 ⌝ }
+    ensures { λ r. ⌜ r ≤ 100 ⌝ }
+{
     match how {
-        MatchReason::NoMask => words::say(text, at, b"no mask bit"),
-        MatchReason::OtherSyllable => words::say(text, at, b"other syllable"),
-        MatchReason::OtherId => words::say(text, at, b"other id"),
-        MatchReason::EqualId => words::say(text, at, b"equal id"),
-        MatchReason::AnyId => words::say(text, at, b"any glyph"),
-        MatchReason::NoTest => words::say(text, at, b"no test"),
+        MatchReason::NoMask => words::reason(text, at, b" no mask bit"),
+        MatchReason::OtherSyllable => words::reason(text, at, b" other syllable"),
+        MatchReason::OtherId => words::reason(text, at, b" other id"),
+        MatchReason::EqualId => words::reason(text, at, b" equal id"),
+        MatchReason::AnyId => words::reason(text, at, b" any glyph"),
+        MatchReason::NoTest => words::reason(text, at, b" no test"),
     }
 }
 
 // A glyph that could be skipped or not is passed over because it doesn't match.
-fn unless_yes(text: &mut [u8; ROOM], at: usize, s: MaySkip, how: MatchReason) -> usize {
+fn unless_yes(text: &mut [u8; ROOM], at: usize, s: MaySkip, how: MatchReason) -> usize
+    requires { ⌜ at ≤ 100 ⌝ }
+    ensures { λ r. ⌜ r ≤ 100 ⌝ }
+{
     match s {
         MaySkip::Yes => at,
         MaySkip::No | MaySkip::Maybe => {
-            let at = words::say(text, at, b", ");
+            let at = words::reason(text, at, b",");
             why_match(text, at, how)
         }
     }
@@ -136,29 +164,35 @@ fn verdict(
     how: MatchReason,
     asked: u32,
     props: u16,
-) -> usize {
+) -> usize
+    requires { ⌜ at ≤ 100 ⌝ }
+    ensures { λ r. ⌜ r ≤ 100 ⌝ }
+{
     match turn {
         Turn::Passed => {
-            let at = words::say(text, at, b"passed over: ");
+            let at = words::reason(text, at, b"passed over:");
             let at = why_skip(text, at, why, asked, props);
             unless_yes(text, at, skip, how)
         }
         Turn::Taken => {
-            let at = words::say(text, at, b"matches: ");
+            let at = words::reason(text, at, b"matches:");
             why_match(text, at, how)
         }
         Turn::Stopped => {
-            let at = words::say(text, at, b"stops: ");
+            let at = words::reason(text, at, b"stops:");
             let at = why_skip(text, at, why, asked, props);
-            let at = words::say(text, at, b", ");
+            let at = words::reason(text, at, b",");
             why_match(text, at, how)
         }
-        Turn::Unlike => words::say(text, at, b"matches, but the ligature rule refuses it"),
+        Turn::Unlike => words::reason(text, at, b"matches, but the ligature rule refuses it"),
     }
 }
 
 // What was asked of a glyph for a value, and what was answered.
-fn asked(text: &mut [u8; ROOM], at: usize, due: u32, s: MaySkip, y: MayMatch) -> usize {
+fn asked(text: &mut [u8; ROOM], at: usize, due: u32, s: MaySkip, y: MayMatch) -> usize
+    requires { ⌜ at ≤ 100 ⌝ }
+    ensures { λ r. ⌜ r ≤ 100 ⌝ }
+{
     let at = words::right(text, at, DUE, due);
     let at = words::pad(text, at, SKIP);
     let at = skip(text, at, s);
@@ -188,7 +222,10 @@ pub(crate) fn tested(
 }
 
 // Ligature id and component.
-fn of_ligature(text: &mut [u8; ROOM], at: usize, g: Glyph) -> usize {
+fn of_ligature(text: &mut [u8; ROOM], at: usize, g: Glyph) -> usize
+    requires { ⌜ at ≤ 100 ⌝ }
+    ensures { λ r. ⌜ r ≤ 100 ⌝ }
+{
     let at = words::number(text, at, g.lig as u32);
     let at = words::say(text, at, b"/");
     words::number(text, at, g.comp as u32)
@@ -234,7 +271,7 @@ pub(crate) fn base(
     let at = words::number(text, at, (place % 65536) as u32);
     let at = words::say(text, at, b" of done: skip ");
     let at = skip(text, at, s);
-    let at = words::say(text, at, b", ");
+    let at = words::say(text, at, b",");
     let at = why_skip(text, at, why, asked, g.props);
     words::end(text, at);
 }

@@ -1,29 +1,28 @@
--- Words in a line that may be too short for them, and what is left of them to store, word by word.
-use Prim.Native.Nat.{ℕ, suc, _+_, _-_, _≤_, _<_}
+-- Words in a line: when there is room for the whole of them, what a line is that ends in them, and what is left of them to store, byte by byte.
+use Prim.Native.Nat.{ℕ, _+_, _≤_, _<_}
 use mathlib.Core.Path.{_≡_, ap, _∙_}
-use mathlib.Core.List.{List, [], _∷_}
-use native.Mathlib.Omega.{arith}
+use mathlib.Core.List.{List, _∷_, _++_}
 use native.Mathlib.Numerals.{add-one}
-use lib.ListN.{length, getD, take, drop, drop-of-length-le}
-use lib.Seq.{drop-cons, take-nil}
+use lib.ListN.{length, getD, take, drop}
+use lib.Seq.{drop-cons}
+use Rattle.tape_frame.specs.Put.{put, Puts, take-put}
 
--- what of the words fits into a line from a place on
-abbrev pub fitting : List ℕ → ℕ → List ℕ → List ℕ
-fitting line at words = take (length line - at) words
+-- the whole of the words fits into a line from a place on
+abbrev pub fitting : List ℕ → ℕ → List ℕ → Type 0
+fitting line at words = at + length words ≤ length line
 
-module _ (size next : ℕ) (words : List ℕ) (i : ℕ) where
-  pub left-on : next < size → i < length words
-      → take (size - next) (drop i words) ≡ getD words i 0 ∷ take (size - (next + 1)) (drop (i + 1) words)
-  left-on h l =
-      let e : size - next ≡ suc (size - (next + 1)) = omega arith in
-      rw (e, drop-cons words i 0 l, add-one i)
+-- what a line has before a place ends in the words, all of them
+pub record EndsIn (line : List ℕ) (place : ℕ) (words : List ℕ) : Type 0 where
+  pub before : List ℕ
+  pub whole : take place line ≡ before ++ words
 
-  -- no room
-  pub left-full : size ≤ next → take (size - next) (drop i words) ≡ []
-  left-full h =
-      let e : size - next ≡ 0 = omega arith in
-      rw e
+pub put-ends : {line words line′ : List ℕ} {at end : ℕ} → fitting line at words → Puts line at words line′ end → EndsIn line′ end words
+put-ends {line = line} {words = words} {line′ = line′} {at = at} h p = record {
+  before = take at line;
+  whole = ap (λ (k : ℕ). take k line′) (p .ends) ∙ ap (take (at + length words)) (p .stored) ∙ take-put line at words h;
+}
 
-  -- no words
-  pub left-none : length words ≤ i → take (size - next) (drop i words) ≡ []
-  left-none h = ap (take (size - next)) (drop-of-length-le words h) ∙ take-nil (size - next)
+-- ---- the code's side
+
+pub left-on : (words : List ℕ) (k : ℕ) → k < length words → drop k words ≡ getD words k 0 ∷ drop (k + 1) words
+left-on words k h = rw (add-one k, drop-cons words k 0 h)

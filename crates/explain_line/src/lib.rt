@@ -1,7 +1,5 @@
-// Lines of text: why one that is no frame of the bench tape is none, and words put into one that may be too short for them.
+// Lines of text: why one that is no frame of the bench tape is none, and words put into one, of which no byte is left out.
 ghost use mathlib.Core.Path.{_≡_};
-ghost use Prim.Native.Nat.{_≤_};
-ghost use lib.ListN.{length};
 ghost use Rattle.tape_frame.specs.Digits.{isDigit};
 ghost use Rattle.tape_frame.specs.Put.{Puts};
 ghost use Rattle.explain_line.specs.Fault.{badFrom, faultOf};
@@ -60,20 +58,16 @@ pub fn why_none(line: &[u8]) -> LineFault
 
 // ---- words
 
-// Words into a line from a place on, as many as there is room for, and where they end. Past the line's end nothing is written.
+// Words into a line from a place on, the whole of them, and where they end. What stands before and behind them stays.
 pub fn put(line: &mut [u8], at: usize, words: &[u8]) -> usize
-    ensures { λ r. ⌜ Puts (now (line .entry)) at (fitting (now (line .entry)) at (now (words .entry))) (now (line .exit)) r ⌝ }
-    ensures { λ r. ⌜ (at ≤ length (now (line .entry)) → r ≤ length (now (line .entry))) ⌝ }
+    requires { ⌜ fitting (now line) at (now words) ⌝ }
+    ensures { λ r. ⌜ Puts (now (line .entry)) at (now (words .entry)) (now (line .exit)) r ⌝ }
 {
-    let mut next = at;
-    let mut i = 0;
-    while i < words.len() {
-        if line.len() <= next {
-            return next;
-        }
-        line[next] = words[i];
-        next += 1;
-        i += 1;
+    let behind = at + words.len();
+    let mut k = 0;
+    while k < words.len() {
+        line[at + k] = words[k];
+        k += 1;
     }
-    next
+    behind
 }

@@ -1,4 +1,4 @@
--- A digit a turn. Assumes nothing.
+-- A digit a turn; the place stays within the columns. Assumes nothing.
 use Prim.Native.Nat.{_-_, _≤_}
 use lib.ListN.{length}
 use borrow.Author.Needs.{needs}
@@ -6,7 +6,7 @@ use Rattle.explain.proofs.answer.digits.Statement.{statement}
 use Rattle.explain.proofs.answer.digits.Tie as tie
 
 abbrev Inv-loop : tie.InvT-loop
-Inv-loop text₀ from answer at₀ i₀ text at i = i ≤ length answer
+Inv-loop text₀ from answer at₀ i₀ text at i = (i ≤ length answer) × (at ≤ 100)
 
 abbrev μ-loop : tie.MeasureT-loop
 μ-loop text₀ from answer at₀ i₀ text at i = length answer - i

@@ -1,4 +1,4 @@
--- An entry a turn. Assumes nothing.
+-- An entry a turn; the place stays within the columns. Assumes nothing.
 use Prim.Native.Nat.{_-_, _≤_}
 use lib.ListN.{length}
 use borrow.Author.Needs.{needs}
@@ -6,7 +6,7 @@ use Rattle.explain.proofs.head.list.Statement.{statement}
 use Rattle.explain.proofs.head.list.Tie as tie
 
 abbrev Inv-loop : tie.InvT-loop
-Inv-loop text₀ from values at₀ i₀ t6 text at i = i ≤ length values
+Inv-loop text₀ from values at₀ i₀ t6 text at i = (i ≤ length values) × (at ≤ 100)
 
 abbrev μ-loop : tie.MeasureT-loop
 μ-loop text₀ from values at₀ i₀ t6 text at i = length values - i
