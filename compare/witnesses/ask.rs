@@ -123,9 +123,10 @@ fn decoded(text: &[u8]) -> String {
     format!("{:?}", &words[..n])
 }
 
-fn put(words: &[u8], length: usize) -> String {
+// Words put into a line of dots.
+fn put(words: &[u8], length: usize, at: usize) -> String {
     let mut line = vec![b'.'; length];
-    let end = explain_line::put(&mut line, 0, words);
+    let end = explain_line::put(&mut line, at, words);
     format!("end {end}, {}", String::from_utf8_lossy(&line))
 }
 

@@ -822,10 +822,12 @@ TABLE = {
         "what_has_no_room_is_lost": ("empty_lines(65536)", "65536 times FF", "21756 times FF"),
     },
     "explain_line": {
-        "g_is_taken_for_a_digit": (said('explain_line::why_none(b"0g")'), "NotDigit(1)", "OtherFault"),
-        "the_first_byte_is_blamed": (said('explain_line::why_none(b"0g")'), "NotDigit(1)", "NotDigit(0)"),
-        "the_first_byte_is_put_again": (call("put", b"ab", 2), "end 2, ab", "end 2, aa"),
-        "words_are_put_past_the_line": (call("put", b"a", 0), "end 0,", "stops"),
+        "every_second_byte_is_left_out": (call("put", b"ab", 2, 0), "end 2, ab", "end 2, a."),
+        "g_is_taken_for_a_digit": (said('explain_line::why_none(b"4g")'), "NotDigit(1)", "OtherFault"),
+        "the_first_byte_is_blamed": (said('explain_line::why_none(b"4x")'), "NotDigit(1)", "NotDigit(0)"),
+        "the_first_byte_is_put_again": (call("put", b"ab", 3, 1), "end 3, .ab", "end 3, .aa"),
+        "the_next_words_cover_the_last": (call("put", b"ab", 4, 2), "end 4, ..ab", "end 2, ..ab"),
+        "words_are_put_past_the_line": (call("put", b"ab", 3, 1), "end 3, .ab", "stops"),
     },
     "explain_glyph": {
         "a_class_is_blamed_where_a_set_is_named": (
