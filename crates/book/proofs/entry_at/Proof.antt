@@ -104,9 +104,10 @@ kind-at-requires c κs = search needs
 returns-4 : tie.Need-returns-4
 unfolding entryAt
 returns-4 c =
-    let a = c .before .before .before .before .before .before .before .before .before .before .args in
+    let at-if3 = c .before .before .before .before .before in
+    let a = at-if3 .before .before .before .before .before .args in
     let e : a .at + 4 + getD (a .words .now) (a .at + 3) 0 - 0 ≡ a .at + 4 + getD (a .words .now) (a .at + 3) 0 = omega arith in
-    rw (le-leb _ _ (c .before .before .before .before .before .before .before .if2 .left), le-leb _ _ (c .before .before .before .before .before .if3 .left)) (rw e at (c .kind-at .ensures))
+    rw (le-leb _ _ (at-if3 .before .before .if2 .left), le-leb _ _ (at-if3 .if3 .left)) (rw e at (c .kind-at .ensures))
 
 pub entry-at-spec : {M : Type 1} → statement M
 entry-at-spec =

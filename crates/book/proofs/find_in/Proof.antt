@@ -30,8 +30,9 @@ entry-at-requires c κs = search needs
 returns-3 : tie.Need-returns-3
 unfolding foundIn
 returns-3 c =
-    let a = c .before .before .before .before .before .before .args in
-    rw (lt-ltb _ _ (c .before .before .before .before .if1 .left), lt-ltb _ _ (c .before .before .before .if2 .left))
+    let at-if2 = c .before .before .before in
+    let a = at-if2 .before .before .before .args in
+    rw (lt-ltb _ _ (at-if2 .before .if1 .left), lt-ltb _ _ (at-if2 .if2 .left))
     (c .entry-at .ensures ∙ ap (λ (at : ℕ). entryAt (a .words .now) at) (c .before .wide .ensures))
 
 pub find-in-spec : {M : Type 1} → statement M

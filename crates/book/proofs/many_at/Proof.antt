@@ -30,8 +30,9 @@ returns-2 c =
 returns-3 : tie.Need-returns-3
 unfolding manyAt
 returns-3 c =
-    let q = c .before .before .before .before .before in
-    rw (lt-ltb _ _ (q .before .if1 .left), ← q .counted-at .ensures, c .before .before .before .ids .given .1, lt-leb _ _ (c .if2 .taken))
+    let at-ids = c .before .before .before in
+    let q = at-ids .before .before in
+    rw (lt-ltb _ _ (q .before .if1 .left), ← q .counted-at .ensures, at-ids .ids .given .1, lt-leb _ _ (c .if2 .taken))
 
 mul-t5 : tie.Need-mul-t5
 mul-t5 c = search needs
@@ -40,13 +41,16 @@ shared-slice-read-t9 : tie.Need-shared-slice-read-t9
 shared-slice-read-t9 c = search needs
 
 cast-t10 : tie.Need-cast-t10
-cast-t10 c = omega (arith, c .shared-slice-known2 .given (c .before .before .before .before .before .before .before .before .before .args .a))
+cast-t10 c =
+    let a = c .before .before .before .before .before .before .before .before .before .args .a in
+    omega (arith, c .shared-slice-known2 .given a)
 
 returns-4 : tie.Need-returns-4
 unfolding manyAt
 returns-4 c =
-    let q = c .before .before .before .before .before .before in
-    rw (lt-ltb _ _ (q .before .if1 .left), ← q .counted-at .ensures, c .before .before .before .before .ids .given .1, le-leb _ _ (c .before .if2 .left))
+    let at-ids = c .before .before .before .before in
+    let q = at-ids .before .before in
+    rw (lt-ltb _ _ (q .before .if1 .left), ← q .counted-at .ensures, at-ids .ids .given .1, le-leb _ _ (c .before .if2 .left))
 
 pub many-at-spec : {M : Type 1} → statement M
 many-at-spec =

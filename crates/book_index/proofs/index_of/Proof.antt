@@ -1,4 +1,5 @@
--- The lookups before `at` are read and their starts stand in their slots; what the whole book says is what they and the words from `at` on say. Assumes nothing.
+-- The lookups before `at` are read and their starts stand in their slots; what the whole book says is what they and the words from `at` on say.
+-- Assumes nothing.
 use mathlib.Core.Path.{_≡_, sym, subst, _∙_}
 use mathlib.Core.List.{List}
 use Prim.Native.Nat.{ℕ, _≤_, _<_, _+_, _-_}
@@ -33,10 +34,11 @@ nothing-requires-2 c κs = search needs
 
 returns-2 : tie.Need-returns-2 Inv-loop μ-loop
 returns-2 c =
-    let ws = c .before .before .before .before .before .before .args .words .now in
-    let l = c .before .before .before .loop in
+    let at-loop-test = c .before .before in
+    let ws = at-loop-test .before .before .before .before .args .words .now in
+    let l = at-loop-test .before .loop in
     c .nothing2 .ensures
-    ∙ sym (index-none ws (l .inv .1) (going-over ws (l .n) (l .at) (l .inv .2) (c .before .before .loop-test .taken) (c .before .if2 .taken)))
+    ∙ sym (index-none ws (l .inv .1) (going-over ws (l .n) (l .at) (l .inv .2) (at-loop-test .loop-test .taken) (c .before .if2 .taken)))
 
 size-at-requires : tie.Need-size-at-requires Inv-loop μ-loop
 size-at-requires c κs = search needs
@@ -46,13 +48,16 @@ nothing-requires-3 c κs = search needs
 
 returns-3 : tie.Need-returns-3 Inv-loop μ-loop
 returns-3 c =
-    let ws = c .before .before .before .before .before .before .before .before .args .words .now in
-    let l = c .before .before .before .before .before .loop in
+    let at-size-at = c .before .before in
+    let at-loop = at-size-at .before .before .before in
+    let ws = at-loop .before .before .before .args .words .now in
+    let l = at-loop .loop in
     c .nothing3 .ensures
     ∙ sym
     (index-none ws (l .inv .1)
-    (going-stuck ws (l .n) (l .at) (l .inv .2) (c .before .before .before .before .loop-test .taken) (omega (arith, l .inv .0, c .before .before .before .if2 .left))
-    (sym (c .before .before .size-at .ensures) ∙ c .before .if3 .taken)))
+    (going-stuck ws (l .n) (l .at) (l .inv .2) (at-size-at .before .before .loop-test .taken)
+    (omega (arith, l .inv .0, at-size-at .before .if2 .left))
+    (sym (at-size-at .size-at .ensures) ∙ c .before .if3 .taken)))
 
 -- a turn
 module _ (c : tie.Else3 Inv-loop μ-loop) where
@@ -70,16 +75,19 @@ module _ (c : tie.Else3 Inv-loop μ-loop) where
 
   on : ReadSoFar ws (n + 1) (at + c .before .size-at .result)
   on =
-      let l = c .before .before .before .before .loop in
+      let at-if2 = c .before .before in
+      let l = at-if2 .before .before .loop in
       subst (λ (k : ℕ). ReadSoFar ws (n + 1) (at + k)) (sym sized)
-      (going-more ws n at (l .inv .2) (c .before .before .before .loop-test .taken) (omega (arith, l .inv .0, c .before .before .if2 .left))
+      (going-more ws n at (l .inv .2) (at-if2 .before .loop-test .taken) (omega (arith, l .inv .0, at-if2 .if2 .left))
       (λ z. c .if3 .left (sized ∙ z)))
 
   within : at + c .before .size-at .result ≤ length ws
   within = on .within
 
 cast-starts : tie.Need-cast-starts Inv-loop μ-loop
-cast-starts c = omega (arith, c .before .before .before .before .loop .inv .1, c .before .before .before .loop-test .taken)
+cast-starts c =
+    let at-loop-test = c .before .before .before in
+    omega (arith, at-loop-test .before .loop .inv .1, at-loop-test .loop-test .taken)
 
 mul-starts : tie.Need-mul-starts Inv-loop μ-loop
 mul-starts c = omega (arith, c .before .before .before .before .loop .inv .0)

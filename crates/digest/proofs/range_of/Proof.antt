@@ -22,7 +22,14 @@ arc-requires : tie.Need-arc-requires
 arc-requires c κs = search needs
 
 returns-2 : tie.Need-returns-2
-returns-2 c = λ k h. c .arc .ensures k h ∙ rw (← c .before .before .before .before .is-wide .ensures, c .before .before .before .if1 .left, c .before .before .shifted .ensures, c .before .shifted2 .ensures)
+returns-2 c =
+    let at-shifted = c .before .before in
+    λ k h. c .arc .ensures k h ∙ rw (
+      ← at-shifted .before .before .is-wide .ensures,
+      at-shifted .before .if1 .left,
+      at-shifted .shifted .ensures,
+      c .before .shifted2 .ensures,
+    )
 
 pub range-of-spec : {M : Type 1} → statement M
 range-of-spec =

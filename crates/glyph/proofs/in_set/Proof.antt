@@ -52,8 +52,9 @@ loop-less c = search needs
 
 loop-again : tie.Need-loop-again Inv-loop μ-loop
 loop-again c =
-    let a = c .before .before .before .before .args in
-    let l = c .before .before .before .loop in
+    let at-loop = c .before .before .before in
+    let a = at-loop .before .args in
+    let l = at-loop .loop in
     (omega arith, l .inv .1 ∙ pair-step (a .sets .now) (l .k) (a .set) (a .id) (l .hit) (omega arith))
 
 returns : tie.Need-returns Inv-loop μ-loop

@@ -96,13 +96,19 @@ add-row-7 : tie.Need-add-row-7
 add-row-7 c = search needs
 
 add-row-8 : tie.Need-add-row-8
-add-row-8 c = omega (arith, length-glyphsOf (c .before .before .before .before .before .before .before .args .row .now))
+add-row-8 c =
+    let row = c .before .before .before .before .before .before .before .args .row .now in
+    omega (arith, length-glyphsOf row)
 
 mul-row-9 : tie.Need-mul-row-9
-mul-row-9 c = omega (arith, length-glyphsOf (c .before .before .before .before .before .before .before .args .row .now))
+mul-row-9 c =
+    let row = c .before .before .before .before .before .before .before .args .row .now in
+    omega (arith, length-glyphsOf row)
 
 slice-write-row-4 : tie.Need-slice-write-row-4
-slice-write-row-4 c = simp length-set (omega (arith, length-glyphsOf (c .before .before .before .before .before .before .before .args .row .now)))
+slice-write-row-4 c =
+    let row = c .before .before .before .before .before .before .before .args .row .now in
+    simp length-set (omega (arith, length-glyphsOf row))
 
 same-length : tie.Need-same-length
 same-length c = search needs

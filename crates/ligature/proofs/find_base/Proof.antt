@@ -36,9 +36,10 @@ module _ (c : tie.After-read Inv-loop μ-loop) where
       let gs = glyphsOf (a .row .now) in
       baseBefore (a .id) gs (length gs) ≡ seen (c .read .result) (a .id) (j - 1) (baseBefore (a .id) gs (j - 1))
   turn =
-      let a = c .before .before .before .before .before .args in
-      let j = c .before .before .loop .j in
-      c .before .before .loop .inv .1
+      let at-loop = c .before .before in
+      let a = at-loop .before .before .before .args in
+      let j = at-loop .loop .j in
+      at-loop .loop .inv .1
       ∙ seek-on (a .id) (glyphsOf (a .row .now)) j (j - 1) (c .read .result) (omega arith) (c .read .ensures)
 
 loop-less : tie.Need-loop-less Inv-loop μ-loop

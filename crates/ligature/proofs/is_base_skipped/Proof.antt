@@ -15,9 +15,11 @@ enum-known-j : tie.Need-enum-known-j
 enum-known-j c = search needs
 
 read-requires : tie.Need-read-requires
-read-requires c κs = let a = c .before .before .before .before .before .before .args in
+read-requires c κs =
+    let at-find-base = c .before .before .before in
+    let a = at-find-base .before .before .before .args in
     let gs = glyphsOf (a .row .now) in
-    base-found (a .id) gs (length gs) (c .before .j .given .0 .0) .0 (sym (c .before .before .before .find-base .ensures) ∙ c .before .j .given .1) .inside
+    base-found (a .id) gs (length gs) (c .before .j .given .0 .0) .0 (sym (at-find-base .find-base .ensures) ∙ c .before .j .given .1) .inside
 
 is-skip-yes-requires : tie.Need-is-skip-yes-requires
 is-skip-yes-requires c κs = search needs
@@ -27,7 +29,9 @@ enum-told c = search needs
 
 returns : tie.Need-returns
 unfolding baseSkips
-returns c = rw (← c .before .before .before .before .before .find-base .ensures, c .before .before .before .j .given .1, ← c .before .read .ensures) (c .is-skip-yes .ensures)
+returns c =
+    let at-j = c .before .before .before in
+    rw (← at-j .before .before .find-base .ensures, at-j .j .given .1, ← c .before .read .ensures) (c .is-skip-yes .ensures)
 
 returns-2 : tie.Need-returns-2
 unfolding baseSkips

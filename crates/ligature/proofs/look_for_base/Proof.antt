@@ -23,16 +23,38 @@ is-base-needed-requires : tie.Need-is-base-needed-requires
 is-base-needed-requires c κs = search needs
 
 returns-3 : tie.Need-returns-3
-returns-3 c = rw (c .before .before .enum-told .given .1, ← c .before .is-base-needed .ensures, not-true (c .before .is-base-needed .result) (c .if1 .taken))
+returns-3 c = rw (
+  c .before .before .enum-told .given .1,
+  ← c .before .is-base-needed .ensures,
+  not-true (c .before .is-base-needed .result) (c .if1 .taken),
+)
 
 is-base-skipped-requires : tie.Need-is-base-skipped-requires
 is-base-skipped-requires c κs = search needs
 
 returns-4 : tie.Need-returns-4
-returns-4 c = rw (c .before .before .before .before .enum-told .given .1, ← c .before .before .before .is-base-needed .ensures, not-false (c .before .before .before .is-base-needed .result) (c .before .before .if1 .left), ← c .before .is-base-skipped .ensures, c .if2 .taken)
+returns-4 c =
+    let at-if1 = c .before .before in
+    let at-is-base-needed = at-if1 .before in
+    rw (
+      at-is-base-needed .before .enum-told .given .1,
+      ← at-is-base-needed .is-base-needed .ensures,
+      not-false (at-is-base-needed .is-base-needed .result) (at-if1 .if1 .left),
+      ← c .before .is-base-skipped .ensures,
+      c .if2 .taken,
+    )
 
 returns-5 : tie.Need-returns-5
-returns-5 c = rw (c .before .before .before .before .enum-told .given .1, ← c .before .before .before .is-base-needed .ensures, not-false (c .before .before .before .is-base-needed .result) (c .before .before .if1 .left), ← c .before .is-base-skipped .ensures, c .if2 .left)
+returns-5 c =
+    let at-if1 = c .before .before in
+    let at-is-base-needed = at-if1 .before in
+    rw (
+      at-is-base-needed .before .enum-told .given .1,
+      ← at-is-base-needed .is-base-needed .ensures,
+      not-false (at-is-base-needed .is-base-needed .result) (at-if1 .if1 .left),
+      ← c .before .is-base-skipped .ensures,
+      c .if2 .left,
+    )
 
 pub look-for-base-spec : {M : Type 1} → statement M
 look-for-base-spec =

@@ -12,14 +12,18 @@ is-may-skip-requires c κs = search needs
 
 returns : tie.Need-returns
 unfolding mayJoin
-returns c = rw (← c .before .before .before .before .before .before .is-attached .ensures, c .before .before .before .before .before .if1 .taken, c .is-may-skip .ensures)
+returns c =
+    let at-if1 = c .before .before .before .before .before in
+    rw (← at-if1 .before .is-attached .ensures, at-if1 .if1 .taken, c .is-may-skip .ensures)
 
 is-attached-requires-2 : tie.Need-is-attached-requires-2
 is-attached-requires-2 c κs = search needs
 
 returns-2 : tie.Need-returns-2
 unfolding mayJoin
-returns-2 c = rw (← c .before .before .before .before .is-attached .ensures, c .before .before .before .if1 .left, c .before .before .is-attached2 .ensures)
+returns-2 c =
+    let at-is-attached2 = c .before .before in
+    rw (← at-is-attached2 .before .before .is-attached .ensures, at-is-attached2 .before .if1 .left, at-is-attached2 .is-attached2 .ensures)
 
 pub may-join-spec : {M : Type 1} → statement M
 may-join-spec =

@@ -27,9 +27,13 @@ span-requires-3 : tie.Need-span-requires-3
 span-requires-3 c κs = search needs
 
 returns-2 : tie.Need-returns-2
-returns-2 c = λ k h.
+returns-2 c =
+    let at-if1 = c .before .before in
+    let start = at-if1 .before in
+    λ k h.
     or-bit k (c .before .span2 .result) (c .span3 .result)
-    ∙ rw (c .before .span2 .ensures k, c .span3 .ensures k, lt-leb _ _ (c .before .before .if1 .left), le-leb k 63 (omega arith), leb·zero k) (and-true (leb (c .before .before .before .args .a % 64) k) (leb k (c .before .before .before .args .b % 64)))
+    ∙ rw (c .before .span2 .ensures k, c .span3 .ensures k, lt-leb _ _ (at-if1 .if1 .left), le-leb k 63 (omega arith), leb·zero k)
+    (and-true (leb (start .args .a % 64) k) (leb k (start .args .b % 64)))
 
 pub arc-spec : {M : Type 1} → statement M
 arc-spec = tie.close (tie.spec span-requires returns span-requires-2 span-requires-3 returns-2)

@@ -19,7 +19,8 @@ count-of-requires c κs = search needs
 returns : tie.Need-returns
 unfolding inputOn
 returns c =
-    rw (c .count-of .ensures, ← c .before .before .before .before .matcher-of .ensures, ← c .before .before .before .searched-row .ensures)
+    let at-searched-row = c .before .before .before in
+    rw (c .count-of .ensures, ← at-searched-row .before .matcher-of .ensures, ← at-searched-row .searched-row .ensures)
     (c .before .take-input .ensures)
 
 pub input-spec : {M : Type 1} → statement M

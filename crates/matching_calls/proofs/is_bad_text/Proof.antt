@@ -21,7 +21,15 @@ is-odd-requires c κs = search needs
 
 returns : tie.Need-returns
 unfolding badText
-returns c = rw (c .before .before .before .before .is-ill-shaped .ensures, c .before .before .before .count .ensures, c .before .before .is-ill-shaped2 .ensures, c .before .count2 .ensures, c .is-odd .ensures)
+returns c =
+    let at-is-ill-shaped2 = c .before .before in
+    rw (
+      at-is-ill-shaped2 .before .before .is-ill-shaped .ensures,
+      at-is-ill-shaped2 .before .count .ensures,
+      at-is-ill-shaped2 .is-ill-shaped2 .ensures,
+      c .before .count2 .ensures,
+      c .is-odd .ensures,
+    )
 
 pub is-bad-text-spec : {M : Type 1} → statement M
 is-bad-text-spec =

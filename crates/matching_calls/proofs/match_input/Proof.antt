@@ -63,20 +63,23 @@ take-input-requires c κs =
     ((omega (arith, whole, g .inside), omega (arith, whole, g .shaped .len-inside, g .shaped .coming-short), omega (arith, g .few)), refl)
 
 count-of-requires : tie.Need-count-of-requires
-count-of-requires c κs = omega (arith, acceptable (c .before .before .before .before .before .before .before .before) .few)
+count-of-requires c κs =
+    let at-enum-told = c .before .before .before .before .before .before .before .before in
+    omega (arith, acceptable at-enum-told .few)
 
 returns-2 : tie.Need-returns-2
 unfolding inputOf inputOn
 returns-2 c =
-    let f = c .before .before .before .before .before .before .before in
+    let at-searched-row = c .before .before .before .before in
+    let f = at-searched-row .before .before .before in
     rw (
       c .count-of .ensures,
       ← f .before .before .before .before .input-fit .ensures,
       f .before .before .enum-told .given .1,
       ← f .first2 .ensures,
       ← f .before .first .ensures,
-      ← c .before .before .before .before .before .matcher-of .ensures,
-      ← c .before .before .before .before .searched-row .ensures,
+      ← at-searched-row .before .matcher-of .ensures,
+      ← at-searched-row .searched-row .ensures,
     )
     (c .before .take-input .ensures)
 

@@ -53,7 +53,14 @@ lookahead-requires c κs = let g = acceptable (c .before .before .before) in ome
 
 returns-2 : tie.Need-returns-2
 unfolding aheadOf
-returns-2 c = rw (← c .before .before .before .before .before .before .ahead-fit .ensures, c .before .before .before .before .enum-told .given .1, ← c .before .before .before .first .ensures, ← c .before .before .read .ensures) (c .lookahead .ensures)
+returns-2 c =
+    let at-read = c .before .before in
+    rw (
+      ← at-read .before .before .before .before .ahead-fit .ensures,
+      at-read .before .before .enum-told .given .1,
+      ← at-read .before .first .ensures,
+      ← at-read .read .ensures,
+    ) (c .lookahead .ensures)
 
 pub match-lookahead-spec : {M : Type 1} → statement M
 match-lookahead-spec =

@@ -43,12 +43,14 @@ loop-holds c = (omega (arith, c .count .ensures), rw (c .count .ensures))
 returns : tie.Need-returns Inv-loop μ-loop
 unfolding backOn
 returns c =
-    let a = c .before .before .before .before .before .before .before .before .before .args in
-    let l = c .before .before .loop in
-    let m = c .before .before .before .before .matcher-of in
+    let at-loop = c .before .before in
+    let a = at-loop .before .before .before .before .before .before .before .args in
+    let l = at-loop .loop in
+    let m = at-loop .before .before .matcher-of in
     rw (← m .ensures)
     (sym (l .inv .1
-    ∙ back-out (judge (m .result) (a .sets .now) (valueBy (a .test) (a .lists .now)) (a .syllable) (glyphsOf (a .row .now))) (l .i) (a .values .now) (omega arith) (l .place) (omega arith)))
+    ∙ back-out (judge (m .result) (a .sets .now) (valueBy (a .test) (a .lists .now)) (a .syllable) (glyphsOf (a .row .now))) (l .i) (a .values .now)
+    (omega arith) (l .place) (omega arith)))
 
 sub-place : tie.Need-sub-place Inv-loop μ-loop
 sub-place c = search needs
@@ -116,11 +118,13 @@ on-rest-requires c κs = search needs
 -- what the rest says is the verdict
 rest : (c : tie.After-on-rest Inv-loop μ-loop) → judged (c .before .before .before) ≡ c .on-rest .result
 rest c =
-    let d = c .before .before .before in
+    let at-if2 = c .before .before in
+    let d = at-if2 .before in
+    let at-read = d .before in
     let a = start d .args in
-    judged-rest (matcher d) (sign d) (a .syllable) (a .sets .now) (gs d) (at d) (d .before .read .result) (d .is-skip-yes .result)
-    (c .on-rest .result) (d .before .read .ensures) (d .is-skip-yes .ensures)
-    (not-true (d .is-skip-yes .result) (c .before .before .if2 .taken)) (c .on-rest .ensures)
+    judged-rest (matcher d) (sign d) (a .syllable) (a .sets .now) (gs d) (at d) (at-read .read .result) (d .is-skip-yes .result)
+    (c .on-rest .result) (at-read .read .ensures) (d .is-skip-yes .ensures)
+    (not-true (d .is-skip-yes .result) (at-if2 .if2 .taken)) (c .on-rest .ensures)
 
 enum-told : tie.Need-enum-told Inv-loop μ-loop
 enum-told c = search needs
@@ -171,11 +175,13 @@ loop-again-3 c = let d = c .before in
 returns-3 : tie.Need-returns-3 Inv-loop μ-loop
 unfolding backOn
 returns-3 c =
-    let a = c .before .before .before .before .before .before .before .before .args in
+    let at-matcher-of = c .before .before .before in
+    let a = at-matcher-of .before .before .before .before .before .args in
     let l = c .before .loop in
-    let m = c .before .before .before .matcher-of in
+    let m = at-matcher-of .matcher-of in
     rw (← m .ensures)
-    (sym (l .inv .1 ∙ told-end behind (judge (m .result) (a .sets .now) (valueBy (a .test) (a .lists .now)) (a .syllable) (glyphsOf (a .row .now))) (l .place) (l .i) (a .values .now) (omega arith)))
+    (sym (l .inv .1 ∙ told-end behind (judge (m .result) (a .sets .now) (valueBy (a .test) (a .lists .now)) (a .syllable) (glyphsOf (a .row .now)))
+    (l .place) (l .i) (a .values .now) (omega arith)))
 
 pub backtrack-spec : {M : Type 1} → statement M
 backtrack-spec =

@@ -60,8 +60,9 @@ forward-from-requires c κs = search needs
 module _ (c : tie.After-forward-from Inv-loop μ-loop) where
   abbrev on : ℕ → ℕ → Verdict
   on =
-      let a = c .before .before .before .before .before .before .before .before .before .before .before .args in
-      judge (c .before .before .before .before .before .before .matcher-of .result) (a .sets .now) (valueBy (a .test) (a .lists .now)) (a .syllable) (glyphsOf (a .text .now))
+      let at-matcher-of = c .before .before .before .before .before .before in
+      let a = at-matcher-of .before .before .before .before .before .args in
+      judge (at-matcher-of .matcher-of .result) (a .sets .now) (valueBy (a .test) (a .lists .now)) (a .syllable) (glyphsOf (a .text .now))
 
   -- what it makes of the whole
   whole : (r : Walked) → c .forward-from .result ≡ r
@@ -70,56 +71,86 @@ module _ (c : tie.After-forward-from Inv-loop μ-loop) where
       told (ahead len) on (a .start) (a .values .now)
       ≡ toldBy (ahead len) on (raised (a .start) r) (drop (c .before .before .before .loop .i + 1) (a .values .now))
   whole r e =
-      let a = c .before .before .before .before .before .before .before .before .before .before .before .args in
-      let l = c .before .before .before .loop in
+      let at-loop = c .before .before .before in
+      let at-count = at-loop .before in
+      let at-onward = at-count .before in
+      let start = at-onward .before .before .before .before .before .before in
+      let a = start .args in
+      let l = at-loop .loop in
       let gs = glyphsOf (a .text .now) in
       let sign : Asked = valueBy (a .test) (a .lists .now) (getD (a .values .now) (l .i) 0) in
       l .inv .1 ∙ told-on (ahead (length gs)) on (a .start + l .next) (l .i) (a .values .now) (omega arith)
       ∙ ap (λ (w : Walked). toldBy (ahead (length gs)) on w (drop (l .i + 1) (a .values .now)))
-      (walk-part (c .before .before .before .before .before .before .matcher-of .result) sign (a .syllable) (a .sets .now) gs
-      (glyphsOf (c .before .before .before .before .before .onward .result .now)) (a .start) (c .before .before .before .before .count .result) (l .next) r
-      (c .before .before .before .before .before .before .before .before .before .before .before .pre) (c .before .before .before .before .before .onward .ensures) (c .before .before .before .before .count .ensures) (sym e ∙ c .forward-from .ensures))
+      (walk-part (at-onward .before .matcher-of .result) sign (a .syllable) (a .sets .now) gs
+      (glyphsOf (at-onward .onward .result .now)) (a .start) (at-count .count .result) (l .next) r
+      (start .pre) (at-onward .onward .ensures) (at-count .count .ensures) (sym e ∙ c .forward-from .ensures))
 
   inside : (r : Walked) → c .forward-from .result ≡ r → WalkWithin (c .before .before .before .before .count .result) r
   inside r e =
-      let a = c .before .before .before .before .before .before .before .before .before .before .before .args in
-      let l = c .before .before .before .loop in
+      let at-loop = c .before .before .before in
+      let at-matcher-of = at-loop .before .before .before in
+      let a = at-matcher-of .before .before .before .before .before .args in
+      let l = at-loop .loop in
       let sign : Asked = valueBy (a .test) (a .lists .now) (getD (a .values .now) (l .i) 0) in
-      walk-within (judgeAt (c .before .before .before .before .before .before .matcher-of .result) sign (a .syllable) (a .sets .now) (glyphsOf (c .before .before .before .before .before .onward .result .now)))
-      (c .before .before .before .before .count .result) (l .next) r (l .inv .0) (sym e ∙ c .forward-from .ensures)
+      walk-within (judgeAt (at-matcher-of .matcher-of .result) sign (a .syllable) (a .sets .now)
+      (glyphsOf (at-loop .before .before .onward .result .now)))
+      (at-loop .before .count .result) (l .next) r (l .inv .0) (sym e ∙ c .forward-from .ensures)
 
-  fits : c .before .before .before .before .before .before .before .before .before .before .before .args .start + c .before .before .before .before .count .result ≤ length (c .before .before .before .before .before .before .before .before .before .before .before .args .text .now)
+  fits :
+      let at-count = c .before .before .before .before in
+      let start = at-count .before .before .before .before .before .before .before in
+      start .args .start + at-count .count .result ≤ length (start .args .text .now)
   fits =
-      let a = c .before .before .before .before .before .before .before .before .before .before .before .args in
-      let pre = c .before .before .before .before .before .before .before .before .before .before .before .pre in
-      omega (arith, ap length (c .before .before .before .before .before .onward .ensures), length-drop (a .start) (glyphsOf (a .text .now)), length-glyphsOf (a .text .now), c .before .before .before .before .count .ensures)
+      let at-count = c .before .before .before .before in
+      let start = at-count .before .before .before .before .before .before .before in
+      let a = start .args in
+      let pre = start .pre in
+      omega (
+        arith,
+        ap length (at-count .before .onward .ensures),
+        length-drop (a .start) (glyphsOf (a .text .now)),
+        length-glyphsOf (a .text .now),
+        at-count .count .ensures,
+      )
 
 enum-known-q : tie.Need-enum-known-q Inv-loop μ-loop
 enum-known-q c = search needs
 
 add-next : tie.Need-add-next Inv-loop μ-loop
-add-next c = let l = inside (c .before .before .before) (Found (c .before .q .given .0 .0)) (c .before .q .given .1) in omega (arith, fits (c .before .before .before))
+add-next c = let l = inside (c .before .before .before) (Found (c .before .q .given .0 .0)) (c .before .q .given .1) in
+    omega (arith, fits (c .before .before .before))
 
 add-i : tie.Need-add-i Inv-loop μ-loop
-add-i c = let w = c .before .before .before in omega (arith, few (w .before .before .before .before .before .before .before .before .before .before .before), w .before .before .loop-test .taken)
+add-i c =
+    let w = c .before .before .before in
+    omega (
+      arith,
+      few (w .before .before .before .before .before .before .before .before .before .before .before),
+      w .before .before .loop-test .taken,
+    )
 
 loop-less : tie.Need-loop-less Inv-loop μ-loop
 loop-less c = search needs
 
 loop-again : tie.Need-loop-again Inv-loop μ-loop
-loop-again c = let w = c .before .before .before in
+loop-again c =
+    let w = c .before .before .before in
+    let at-loop = w .before .before .before in
+    let start = at-loop .before .before .before .before .before .before .before .before in
     let q = c .before .q .given .0 .0 in (
       let l = inside w (Found q) (c .before .q .given .1) in omega arith,
       whole w (Found q) (c .before .q .given .1)
-          ∙ ap (λ (n : ℕ). told (ahead (length (glyphsOf (w .before .before .before .before .before .before .before .before .before .before .before .args .text .now)))) (on w) n (drop (w .before .before .before .loop .i + 1) (w .before .before .before .before .before .before .before .before .before .before .before .args .values .now)))
-          (add-assoc (w .before .before .before .before .before .before .before .before .before .before .before .args .start) q 1),
+          ∙ ap (λ (n : ℕ). told (ahead (length (glyphsOf (start .args .text .now)))) (on w) n
+          (drop (at-loop .loop .i + 1) (start .args .values .now)))
+          (add-assoc (start .args .start) q 1),
     )
 
 enum-known-extent : tie.Need-enum-known-extent Inv-loop μ-loop
 enum-known-extent c = search needs
 
 add-t23 : tie.Need-add-t23 Inv-loop μ-loop
-add-t23 c = let l = inside (c .before .before .before) (Stopped (c .before .extent .given .0 .0)) (c .before .extent .given .1) in omega (arith, fits (c .before .before .before))
+add-t23 c = let l = inside (c .before .before .before) (Stopped (c .before .extent .given .0 .0)) (c .before .extent .given .1) in
+    omega (arith, fits (c .before .before .before))
 
 returns : tie.Need-returns Inv-loop μ-loop
 unfolding aheadOn
@@ -130,7 +161,8 @@ enum-known-extent-2 : tie.Need-enum-known-extent-2 Inv-loop μ-loop
 enum-known-extent-2 c = search needs
 
 add-t24 : tie.Need-add-t24 Inv-loop μ-loop
-add-t24 c = let l = inside (c .before .before .before) (RanOut (c .before .extent2 .given .0 .0)) (c .before .extent2 .given .1) in omega (arith, fits (c .before .before .before))
+add-t24 c = let l = inside (c .before .before .before) (RanOut (c .before .extent2 .given .0 .0)) (c .before .extent2 .given .1) in
+    omega (arith, fits (c .before .before .before))
 
 returns-2 : tie.Need-returns-2 Inv-loop μ-loop
 unfolding aheadOn
@@ -144,16 +176,28 @@ returns-3 : tie.Need-returns-3 Inv-loop μ-loop
 returns-3 c = absurd (inside (c .before .before) Refused (c .enum-told .given .1))
 
 add-t26 : tie.Need-add-t26 Inv-loop μ-loop
-add-t26 c = let a = c .before .before .before .before .before .before .before .before .before .args in
-    omega (arith, ap length (c .before .before .before .onward .ensures), length-drop (a .start) (glyphsOf (a .text .now)), length-glyphsOf (a .text .now), c .before .before .count .ensures)
+add-t26 c =
+    let at-count = c .before .before in
+    let a = at-count .before .before .before .before .before .before .before .args in
+    omega (
+      arith,
+      ap length (at-count .before .onward .ensures),
+      length-drop (a .start) (glyphsOf (a .text .now)),
+      length-glyphsOf (a .text .now),
+      at-count .count .ensures,
+    )
 
 returns-4 : tie.Need-returns-4 Inv-loop μ-loop
 unfolding aheadOn
-returns-4 c = let a = c .before .before .before .before .before .before .before .before .before .args in
+returns-4 c =
+    let at-matcher-of = c .before .before .before .before in
+    let a = at-matcher-of .before .before .before .before .before .args in
     let l = c .before .loop in
     let gs = glyphsOf (a .text .now) in
-    rw (← c .before .before .before .before .matcher-of .ensures)
-    (sym (l .inv .1 ∙ told-end (ahead (length gs)) (judge (c .before .before .before .before .matcher-of .result) (a .sets .now) (valueBy (a .test) (a .lists .now)) (a .syllable) gs) (a .start + l .next) (l .i) (a .values .now) (omega arith)))
+    rw (← at-matcher-of .matcher-of .ensures)
+    (sym (l .inv .1 ∙ told-end (ahead (length gs))
+    (judge (at-matcher-of .matcher-of .result) (a .sets .now) (valueBy (a .test) (a .lists .now)) (a .syllable) gs) (a .start + l .next) (l .i)
+    (a .values .now) (omega arith)))
 
 pub lookahead-spec : {M : Type 1} → statement M
 lookahead-spec =

@@ -18,7 +18,8 @@ begin-requires c κs = search needs
 chain-requires : tie.Need-chain-requires
 chain-requires c κs =
     let s = c .before .before .before .before .before .before .before .before in
-    rw (c .before .before .begin .ensures) (s .pre .0, record { fits = s .pre .1; few = omega (arith, s .pre .2); neat = s .pre .3; sound = s .pre .4 })
+    rw (c .before .before .begin .ensures)
+    (s .pre .0, record { fits = s .pre .1; few = omega (arith, s .pre .2); neat = s .pre .3; sound = s .pre .4 })
 
 clear-outside-requires : tie.Need-clear-outside-requires
 clear-outside-requires c κs = search needs
@@ -31,12 +32,16 @@ same-length-2 c = search needs
 
 returns : tie.Need-returns
 returns c =
-    let a = c .before .before .before .before .before .before .before .before .before .before .before .before .before .before .before .before .before .before .before .before .before .before .before .before .args in
-    let r = c .before .before .before .before .before .before .before .before .before .before .before .before .before .before .before .chain in
-    let k = c .before .before .before .before .before .clear-outside in
+    let at-clear-outside = c .before .before .before .before .before in
+    let at-chain = at-clear-outside .before .before .before .before .before .before .before .before .before .before in
+    let at-begin = at-chain .before .before .before in
+    let a = at-begin .before .before .before .before .before .before .args in
+    let r = at-chain .chain in
+    let k = at-clear-outside .clear-outside in
     let told = subst (λ (s : State). Chained (r .last .0) (r .last .1 .0) (r .result)
-    (chainRun (ruled (a .given) (a .sets .now)) (lookupsOf (a .book .now)) (a .depth) (recordsOf (a .records .now)) (stageOf (a .done .now) (a .coming .now) s (a .m))))
-    (c .before .before .before .before .before .before .before .before .before .before .before .before .before .before .before .before .before .before .begin .ensures) (r .ensures) in
+    (chainRun (ruled (a .given) (a .sets .now)) (lookupsOf (a .book .now)) (a .depth) (recordsOf (a .records .now))
+    (stageOf (a .done .now) (a .coming .now) s (a .m))))
+    (at-begin .begin .ensures) (r .ensures) in
     whole-is _ (r .last .0) (r .last .1 .0) (k .last .0) (k .last .1 .0) (r .result) told (k .ensures .0) (k .ensures .1)
 
 pub go-spec : {M : Type 1} → statement M

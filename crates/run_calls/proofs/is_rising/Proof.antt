@@ -28,10 +28,21 @@ wide-requires : tie.Need-wide-requires Inv-loop μ-loop
 wide-requires c κs = search needs
 
 returns : tie.Need-returns Inv-loop μ-loop
-returns c = let s = c .before .before .before .before .before in let l = c .before .before .before .before .loop in rise-low (s .args .from) (s .args .end) (s .args .count) (s .args .places .now) (s .pre .0) (s .pre .1) (l .low) (l .i) (c .before .wide .result) (c .before .before .before .loop-test .taken) (l .inv .1) (c .before .wide .ensures) (c .if1 .taken)
+returns c =
+    let at-loop-test = c .before .before .before in
+    let s = at-loop-test .before .before in
+    let l = at-loop-test .before .loop in
+    rise-low (s .args .from) (s .args .end) (s .args .count) (s .args .places .now) (s .pre .0) (s .pre .1) (l .low) (l .i) (c .before .wide .result)
+    (at-loop-test .loop-test .taken) (l .inv .1) (c .before .wide .ensures) (c .if1 .taken)
 
 returns-2 : tie.Need-returns-2 Inv-loop μ-loop
-returns-2 c = let s = c .before .before .before .before .before .before in let l = c .before .before .before .before .before .loop in rise-past (s .args .from) (s .args .end) (s .args .count) (s .args .places .now) (s .pre .0) (s .pre .1) (l .low) (l .i) (c .before .before .wide .result) (c .before .before .before .before .loop-test .taken) (l .inv .1) (c .before .before .wide .ensures) (c .before .if1 .left) (c .if2 .taken)
+returns-2 c =
+    let at-wide = c .before .before in
+    let at-loop = at-wide .before .before .before in
+    let s = at-loop .before in
+    let l = at-loop .loop in
+    rise-past (s .args .from) (s .args .end) (s .args .count) (s .args .places .now) (s .pre .0) (s .pre .1) (l .low) (l .i) (at-wide .wide .result)
+    (at-wide .before .before .loop-test .taken) (l .inv .1) (at-wide .wide .ensures) (c .before .if1 .left) (c .if2 .taken)
 
 add-low : tie.Need-add-low Inv-loop μ-loop
 add-low c = omega arith
@@ -43,10 +54,23 @@ loop-less : tie.Need-loop-less Inv-loop μ-loop
 loop-less c = omega arith
 
 loop-again : tie.Need-loop-again Inv-loop μ-loop
-loop-again c = let s = c .before .before .before .before .before .before in let l = c .before .before .before .before .before .loop in (omega arith, rise-on (s .args .from) (s .args .end) (s .args .count) (s .args .places .now) (s .pre .0) (s .pre .1) (l .low) (l .i) (c .before .before .wide .result) (c .before .before .before .before .loop-test .taken) (l .inv .1) (c .before .before .wide .ensures) (c .before .if1 .left) (c .if2 .left))
+loop-again c =
+    let at-wide = c .before .before in
+    let at-loop = at-wide .before .before .before in
+    let s = at-loop .before in
+    let l = at-loop .loop in (
+      omega arith,
+      rise-on (s .args .from) (s .args .end) (s .args .count) (s .args .places .now) (s .pre .0) (s .pre .1) (l .low) (l .i)
+          (at-wide .wide .result) (at-wide .before .before .loop-test .taken) (l .inv .1) (at-wide .wide .ensures) (c .before .if1 .left)
+          (c .if2 .left),
+    )
 
 returns-3 : tie.Need-returns-3 Inv-loop μ-loop
-returns-3 c = let s = c .before .before in let l = c .before .loop in rise-end (s .args .from) (s .args .end) (s .args .count) (s .args .places .now) (s .pre .0) (s .pre .1) (l .low) (l .i) (c .loop-test .left) (l .inv .1)
+returns-3 c =
+    let s = c .before .before in
+    let l = c .before .loop in
+    rise-end (s .args .from) (s .args .end) (s .args .count) (s .args .places .now) (s .pre .0) (s .pre .1) (l .low) (l .i) (c .loop-test .left)
+    (l .inv .1)
 
 pub is-rising-spec : {M : Type 1} → statement M
 is-rising-spec =

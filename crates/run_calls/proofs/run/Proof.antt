@@ -39,7 +39,13 @@ same-length-2 : tie.Need-same-length-2
 same-length-2 c = search needs
 
 returns : tie.Need-returns
-returns c = let s = c .before .before .before .before .before .before .before .before .before .before .before .before in let a = s .args in said-refused _ (c .before .before .why .given .0 .0) _ (a .done .now) (a .coming .now) (c .refuse .result) (all-first (handed s) (a .allowance) (a .depth) (c .before .before .why .given .0 .0) (sym (c .before .before .before .before .check .ensures) ∙ c .before .before .why .given .1)) (c .refuse .ensures)
+returns c =
+    let at-why = c .before .before in
+    let s = at-why .before .before .before .before .before .before .before .before .before .before in
+    let a = s .args in
+    said-refused _ (at-why .why .given .0 .0) _ (a .done .now) (a .coming .now) (c .refuse .result)
+    (all-first (handed s) (a .allowance) (a .depth) (at-why .why .given .0 .0)
+    (sym (at-why .before .before .check .ensures) ∙ at-why .why .given .1)) (c .refuse .ensures)
 
 enum-told : tie.Need-enum-told
 enum-told c = search needs
@@ -57,10 +63,25 @@ same-length-4 : tie.Need-same-length-4
 same-length-4 c = search needs
 
 returns-2 : tie.Need-returns-2
-returns-2 c = let s = c .before .before .before .before .before .before .before .before .before .before .before .before .before in let a = s .args in said-refused _ Book _ (a .done .now) (a .coming .now) (c .refuse2 .result) (all-book (handed s) (a .allowance) (a .depth) (sym (c .before .before .before .before .before .check .ensures) ∙ c .before .before .before .enum-told .given .1) (sym (index-reads (a .book .now)) ∙ ap (λ (x : Index). x .reads) (sym (c .before .before .index-of .ensures)) ∙ not-true _ (c .before .if1 .taken))) (c .refuse2 .ensures)
+returns-2 c =
+    let at-index-of = c .before .before in
+    let at-check = at-index-of .before .before .before in
+    let s = at-check .before .before .before .before .before .before .before .before in
+    let a = s .args in
+    said-refused _ Book _ (a .done .now) (a .coming .now) (c .refuse2 .result)
+    (all-book (handed s) (a .allowance) (a .depth) (sym (at-check .check .ensures) ∙ at-index-of .before .enum-told .given .1)
+    (sym (index-reads (a .book .now)) ∙ ap (λ (x : Index). x .reads) (sym (at-index-of .index-of .ensures)) ∙ not-true _ (c .before .if1 .taken)))
+    (c .refuse2 .ensures)
 
 apply-requires : tie.Need-apply-requires
-apply-requires c κs = let s = c .before .before .before .before .before .before .before .before .before .before .before .before .before .before .before .before in let a = s .args in let f = first-shows (handed s) (a .allowance) (a .depth) (sym (c .before .before .before .before .before .before .before .before .check .ensures) ∙ c .before .before .before .before .before .before .enum-told .given .1) in (index-is (a .book .now) (c .before .before .before .before .before .index-of .result) (c .before .before .before .before .before .index-of .ensures) (not-false _ (c .before .before .before .before .if1 .left)), f .0, f .1, f .2)
+apply-requires c κs =
+    let at-if1 = c .before .before .before .before in
+    let at-index-of = at-if1 .before in
+    let at-check = at-index-of .before .before .before in
+    let s = at-check .before .before .before .before .before .before .before .before in
+    let a = s .args in
+    let f = first-shows (handed s) (a .allowance) (a .depth) (sym (at-check .check .ensures) ∙ at-index-of .before .enum-told .given .1) in
+    (index-is (a .book .now) (at-index-of .index-of .result) (at-index-of .index-of .ensures) (not-false _ (at-if1 .if1 .left)), f .0, f .1, f .2)
 
 same-length-5 : tie.Need-same-length-5
 same-length-5 c = search needs
@@ -69,7 +90,17 @@ same-length-6 : tie.Need-same-length-6
 same-length-6 c = search needs
 
 returns-3 : tie.Need-returns-3
-returns-3 c = let s = c .before .before .before .before .before .before .before .before .before .before .before .before .before .before .before .before .before .before .before .before .before in let a = s .args in let g = c .before .before .before .before .apply in said-same _ _ _ (a .done .now) (a .coming .now) (g .last .0) (g .last .1 .0) (g .result) (all-match (handed s) (a .allowance) (a .depth) (sym (c .before .before .before .before .before .before .before .before .before .before .before .before .before .check .ensures) ∙ c .before .before .before .before .before .before .before .before .before .before .before .enum-told .given .1) (sym (index-reads (a .book .now)) ∙ ap (λ (x : Index). x .reads) (sym (c .before .before .before .before .before .before .before .before .before .before .index-of .ensures)) ∙ not-false _ (c .before .before .before .before .before .before .before .before .before .if1 .left))) (g .ensures)
+returns-3 c =
+    let at-apply = c .before .before .before .before in
+    let at-if1 = at-apply .before .before .before .before .before in
+    let at-check = at-if1 .before .before .before .before in
+    let s = at-check .before .before .before .before .before .before .before .before in
+    let a = s .args in
+    let g = at-apply .apply in
+    said-same _ _ _ (a .done .now) (a .coming .now) (g .last .0) (g .last .1 .0) (g .result)
+    (all-match (handed s) (a .allowance) (a .depth) (sym (at-check .check .ensures) ∙ at-if1 .before .before .enum-told .given .1)
+    (sym (index-reads (a .book .now)) ∙ ap (λ (x : Index). x .reads) (sym (at-if1 .before .index-of .ensures)) ∙ not-false _ (at-if1 .if1 .left)))
+    (g .ensures)
 
 pub run-spec : {M : Type 1} → statement M
 run-spec =

@@ -7,7 +7,9 @@ use Rattle.run_chain_match.proofs.is_behind.Statement.{statement}
 use Rattle.run_chain_match.proofs.is_behind.Tie as tie
 
 returns : tie.Need-returns
-returns c = let a = c .before .before .before .before .before .args in no-back (a .q) (a .sets .now) (valueBy (a .test) (a .lists .now)) (glyphsOf (a .before .now)) (a .syllable) (a .values .now) (c .if1 .taken)
+returns c =
+    let a = c .before .before .before .before .before .args in
+    no-back (a .q) (a .sets .now) (valueBy (a .test) (a .lists .now)) (glyphsOf (a .before .now)) (a .syllable) (a .values .now) (c .if1 .taken)
 
 widen-requires : tie.Need-widen-requires
 widen-requires c κs = search needs
@@ -28,7 +30,12 @@ is-found-requires : tie.Need-is-found-requires
 is-found-requires c κs = search needs
 
 returns-2 : tie.Need-returns-2
-returns-2 c = let a = c .before .before .before .before .before .before .before .before .before .before .args in back-told (a .q) (a .sets .now) (valueBy (a .test) (a .lists .now)) (glyphsOf (a .before .now)) (a .values .now) (c .before .before .before .before .widen .result) (c .before .before .before .before .widen .ensures) (a .syllable) (c .before .backtrack .result) (c .is-found .result) (c .before .backtrack .ensures) (c .is-found .ensures)
+returns-2 c =
+    let at-widen = c .before .before .before .before in
+    let a = at-widen .before .before .before .before .before .before .args in
+    back-told (a .q) (a .sets .now) (valueBy (a .test) (a .lists .now)) (glyphsOf (a .before .now)) (a .values .now) (at-widen .widen .result)
+    (at-widen .widen .ensures) (a .syllable) (c .before .backtrack .result) (c .is-found .result) (c .before .backtrack .ensures)
+    (c .is-found .ensures)
 
 pub is-behind-spec : {M : Type 1} → statement M
 is-behind-spec =

@@ -22,7 +22,11 @@ input-requires : tie.Need-input-requires
 input-requires c κs = search needs
 
 returns : tie.Need-returns
-returns c = let a = c .before .before .before .before .before .before .before .before .before .args in input-told (a .q) (a .sets .now) (valueBy (a .test) (a .lists .now)) (glyphsOf (a .coming .now)) (a .values .now) (c .before .before .before .widen .result) (c .before .before .before .widen .ensures) (glyphsOf (a .before .now)) (a .idx) (c .input .result) (c .input .ensures)
+returns c =
+    let at-widen = c .before .before .before in
+    let a = at-widen .before .before .before .before .before .before .args in
+    input-told (a .q) (a .sets .now) (valueBy (a .test) (a .lists .now)) (glyphsOf (a .coming .now)) (a .values .now) (at-widen .widen .result)
+    (at-widen .widen .ensures) (glyphsOf (a .before .now)) (a .idx) (c .input .result) (c .input .ensures)
 
 pub match-values-spec : {M : Type 1} → statement M
 match-values-spec =

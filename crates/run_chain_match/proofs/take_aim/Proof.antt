@@ -29,11 +29,19 @@ few s = omega arith
 
 -- the parts of the entry
 module _ (c : tie.After-by-id) where
-  inside : GoodChain (length (c .before .before .before .before .before .before .before .before .before .before .before .before .before .args .book .now)) (c .before .before .before .before .before .before .before .e .given .0 .1 .0)
-  inside = rw (c .before .before .before .before .before .before .before .e .given .1) at (c .before .before .before .before .before .before .before .before .before .before .before .before .before .pre .2)
+  inside :
+      let at-e = c .before .before .before .before .before .before .before in
+      let start = at-e .before .before .before .before .before .before in
+      GoodChain (length (start .args .book .now)) (at-e .e .given .0 .1 .0)
+  inside =
+      let at-e = c .before .before .before .before .before .before .before in
+      let start = at-e .before .before .before .before .before .before in
+      rw (at-e .e .given .1) at (start .pre .2)
 
 mul-match-chain : tie.Need-mul-match-chain
-mul-match-chain c = omega (arith, few (c .before .before .before .before .before .before .before .before .before .before .before .before .before), inside c .backtrack .ordered, inside c .backtrack .within)
+mul-match-chain c =
+    let start = c .before .before .before .before .before .before .before .before .before .before .before .before .before in
+    omega (arith, few start, inside c .backtrack .ordered, inside c .backtrack .within)
 
 sub-match-chain : tie.Need-sub-match-chain
 sub-match-chain c = inside c .backtrack .ordered
@@ -45,7 +53,9 @@ part-match-chain-end : tie.Need-part-match-chain-end
 part-match-chain-end c = omega (arith, inside c .backtrack .ordered, inside c .backtrack .within)
 
 mul-match-chain-2 : tie.Need-mul-match-chain-2
-mul-match-chain-2 c = omega (arith, few (c .before .before .before .before .before .before .before .before .before .before .before .before .before .before), inside (c .before) .input .ordered, inside (c .before) .input .within)
+mul-match-chain-2 c =
+    let start = c .before .before .before .before .before .before .before .before .before .before .before .before .before .before in
+    omega (arith, few start, inside (c .before) .input .ordered, inside (c .before) .input .within)
 
 sub-match-chain-2 : tie.Need-sub-match-chain-2
 sub-match-chain-2 c = inside (c .before) .input .ordered
@@ -57,7 +67,10 @@ part-match-chain-end-2 : tie.Need-part-match-chain-end-2
 part-match-chain-end-2 c = omega (arith, inside (c .before) .input .ordered, inside (c .before) .input .within)
 
 mul-match-chain-3 : tie.Need-mul-match-chain-3
-mul-match-chain-3 c = omega (arith, few (c .before .before .before .before .before .before .before .before .before .before .before .before .before .before .before), inside (c .before .before) .lookahead .ordered, inside (c .before .before) .lookahead .within)
+mul-match-chain-3 c =
+    let at-by-id = c .before .before in
+    let start = at-by-id .before .before .before .before .before .before .before .before .before .before .before .before .before in
+    omega (arith, few start, inside at-by-id .lookahead .ordered, inside at-by-id .lookahead .within)
 
 sub-match-chain-3 : tie.Need-sub-match-chain-3
 sub-match-chain-3 c = inside (c .before .before) .lookahead .ordered
@@ -70,8 +83,9 @@ part-match-chain-end-3 c = omega (arith, inside (c .before .before) .lookahead .
 
 match-chain-requires : tie.Need-match-chain-requires
 match-chain-requires c κs =
-    let s = c .before .before .before .before .before .before .before .before .before .before .before .before .before .before .before .before in
-    let g = inside (c .before .before .before) in (
+    let at-by-id = c .before .before .before in
+    let s = at-by-id .before .before .before .before .before .before .before .before .before .before .before .before .before in
+    let g = inside at-by-id in (
       s .pre .0,
       s .pre .1,
       simp (length-take, length-drop) (omega (arith, g .backtrack .few)),
@@ -99,16 +113,19 @@ no-aim-requires-3 c κs = search needs
 
 returns : tie.Need-returns
 returns c =
-    let a = c .before .before .before .before .before .before .before .before .before .before .before .before .before .before .before .before .before .args in
-    let e = c .before .before .before .before .before .before .before .before .before .before .before .e .given in
-    let q = c .before .before .before .before .before .before .before .before .before .ask in
+    let at-by-id = c .before .before .before .before in
+    let at-ask = at-by-id .before .before .before .before .before in
+    let a = at-ask .before .before .before .before .before .before .before .before .args in
+    let e = at-ask .before .before .e .given in
+    let q = at-ask .ask in
     let k = e .0 .1 .0 in
     let ws = a .book .now in
     let t = textOf (a .done .now) (a .coming .now) (a .p) in
     rw (e .1)
     (c .match-chain .ensures
     ∙ ap (λ (x : Tests). aimAt (k .records) (chainMatch (q .result) (a .sets .now) t
-    (handedChain x ws (k .first) (partOf ws (k .backtrack)) (partOf ws (k .input)) (partOf ws (k .lookahead)) (k .records)))) (c .before .before .before .before .by-id .ensures)
+    (handedChain x ws (k .first) (partOf ws (k .backtrack)) (partOf ws (k .input)) (partOf ws (k .lookahead)) (k .records))))
+    (at-by-id .by-id .ensures)
     ∙ aim-chain (a .given) (a .sets .now) ws t (e .0 .0) k (q .result) (q .ensures))
 
 returns-2 : tie.Need-returns-2

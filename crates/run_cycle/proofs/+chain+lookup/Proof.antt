@@ -129,32 +129,45 @@ chain-prepare-requires : (t : ℕ) → chain-lts.Need-prepare-requires (chain-cs
 chain-prepare-requires t c κs = c .before .before .before .before .before .loop .inv .3
 
 chain-size-requires : (t : ℕ) → chain-lts.Need-size-requires (chain-cs t) (chain-at t) chain.Post chain-Inv-loop chain-μ-loop
-chain-size-requires t c κs = let f = c .before .before .before .before .before .before .before .before .prepare .ensures .ran .fits in (f .within, f .room)
+chain-size-requires t c κs =
+    let f = c .before .before .before .before .before .before .before .before .prepare .ensures .ran .fits in
+    (f .within, f .room)
 
 chain-find-in-requires : (t : ℕ) → chain-lts.Need-find-in-requires (chain-cs t) (chain-at t) chain.Post chain-Inv-loop chain-μ-loop
 chain-find-in-requires t c κs = search needs
 
 chain-sub-lookup : (t : ℕ) → chain-lts.Need-sub-lookup (chain-cs t) (chain-at t) chain.Post chain-Inv-loop chain-μ-loop
 chain-sub-lookup t c =
-    let a = c .before .before .before .before .before .before .before .before .before .before .before .before .before .before .before .before .before .before .before .before .before .before .before .before .args in
-    let l = c .before .before .before .before .before .before .before .before .before .before .before .before .before .before .before .before .before .before .loop in
-    let p = c .before .before .before .before .before .before .before .before .before .before .before .before .prepare in
-    tried-deep (a .depth) (recordAt (a .recs .now) (l .i)) (l .done) (l .coming) (l .st) (l .lv) (l .inv .3) (p .last .0) (p .last .1 .0) (p .result) (p .ensures) (c .before .before .before .before .before .if1 .taken)
+    let at-if1 = c .before .before .before .before .before in
+    let at-prepare = at-if1 .before .before .before .before .before .before .before in
+    let at-loop = at-prepare .before .before .before .before .before .before in
+    let a = at-loop .before .before .before .before .before .before .args in
+    let l = at-loop .loop in
+    let p = at-prepare .prepare in
+    tried-deep (a .depth) (recordAt (a .recs .now) (l .i)) (l .done) (l .coming) (l .st) (l .lv) (l .inv .3) (p .last .0) (p .last .1 .0) (p .result)
+    (p .ensures) (at-if1 .if1 .taken)
 
 chain-lookup-requires : (t : ℕ) → chain-lts.Need-lookup-requires (chain-cs t) (chain-at t) chain.Post chain-Inv-loop chain-μ-loop
 chain-lookup-requires t c κs =
-    let a = c .before .before .before .before .before .before .before .before .before .before .before .before .before .before .before .before .before .before .before .before .before .before .before .before .args in
-    let l = c .before .before .before .before .before .before .before .before .before .before .before .before .before .before .before .before .before .before .loop in
-    let p = c .before .before .before .before .before .before .before .before .before .before .before .before .prepare in
-    let go = c .before .before .before .before .before .if1 .taken in
+    let at-find-in = c .before .before in
+    let at-if1 = at-find-in .before .before .before in
+    let at-prepare = at-if1 .before .before .before .before .before .before .before in
+    let at-loop = at-prepare .before .before .before .before .before .before in
+    let start = at-loop .before .before .before .before .before .before in
+    let a = start .args in
+    let l = at-loop .loop in
+    let p = at-prepare .prepare in
+    let go = at-if1 .if1 .taken in
     let d : 1 ≤ a .depth = chain-sub-lookup t c in (
-      omega (arith, c .before .before .before .before .before .before .before .before .before .before .before .before .before .before .before .before .before .before .before .before .before .before .before .before .pre .0),
+      omega (arith, start .pre .0),
       (
         l .inv .2,
-        rw (c .before .before .find-in .ensures) (entry-good (l .inv .2) _),
+        rw (at-find-in .find-in .ensures) (entry-good (l .inv .2) _),
         p .ensures .ran .fits,
-        tried-inside (a .depth) (recordAt (a .recs .now) (l .i)) (l .done) (l .coming) (l .st) (l .lv) (l .inv .3) (p .last .0) (p .last .1 .0) (p .result) (p .ensures) go,
-        tried-few (a .depth) (recordAt (a .recs .now) (l .i)) (l .done) (l .coming) (l .st) (l .lv) (l .inv .3) (p .last .0) (p .last .1 .0) (p .result) (p .ensures) go,
+        tried-inside (a .depth) (recordAt (a .recs .now) (l .i)) (l .done) (l .coming) (l .st) (l .lv) (l .inv .3) (p .last .0) (p .last .1 .0)
+            (p .result) (p .ensures) go,
+        tried-few (a .depth) (recordAt (a .recs .now) (l .i)) (l .done) (l .coming) (l .st) (l .lv) (l .inv .3) (p .last .0) (p .last .1 .0)
+            (p .result) (p .ensures) go,
       ),
     )
 
@@ -163,42 +176,57 @@ chain-size-requires-2 t c κs = let f = c .before .before .before .before .befor
 
 chain-repair-requires : (t : ℕ) → chain-lts.Need-repair-requires (chain-cs t) (chain-at t) chain.Post chain-Inv-loop chain-μ-loop
 chain-repair-requires t c κs =
-    let a = c .before .before .before .before .before .before .before .before .before .before .before .before .before .before .before .before .before .before .before .before .before .before .before .before .before .before .before .before .before .before .before .args in
-    let l = c .before .before .before .before .before .before .before .before .before .before .before .before .before .before .before .before .before .before .before .before .before .before .before .before .before .loop in
-    let p = c .before .before .before .before .before .before .before .before .before .before .before .before .before .before .before .before .before .before .before .prepare in
-    let go = c .before .before .before .before .before .before .before .before .before .before .before .before .if1 .taken in (
-      ready-neat (a .depth) (recordAt (a .recs .now) (l .i)) (l .done) (l .coming) (l .st) (l .lv) (l .inv .3) (p .last .0) (p .last .1 .0) (p .result) (p .ensures),
-      rw (c .before .before .before .before .before .before .before .before .before .before .size .ensures) (tried-sound (a .depth) (recordAt (a .recs .now) (l .i)) (l .done) (l .coming) (l .st) (l .lv) (l .inv .3) (p .last .0) (p .last .1 .0) (p .result) (p .ensures) go),
-      tried-index (a .depth) (recordAt (a .recs .now) (l .i)) (l .done) (l .coming) (l .st) (l .lv) (l .inv .3) (p .last .0) (p .last .1 .0) (p .result) (p .ensures) go,
-      rw (c .before .before .before .before .before .before .before .before .before .before .size .ensures) (size-within (p .result .state) (p .ensures .ran .fits)),
-      rw (c .size2 .ensures) (size-within (c .before .before .before .before .before .before .lookup .result) (c .before .before .before .before .before .before .lookup .ensures .fits)),
+    let at-lookup = c .before .before .before .before .before .before in
+    let at-size = at-lookup .before .before .before .before in
+    let at-prepare = at-size .before .before .before .before .before .before .before .before .before in
+    let at-loop = at-prepare .before .before .before .before .before .before in
+    let a = at-loop .before .before .before .before .before .before .args in
+    let l = at-loop .loop in
+    let p = at-prepare .prepare in
+    let go = at-size .before .before .if1 .taken in (
+      ready-neat (a .depth) (recordAt (a .recs .now) (l .i)) (l .done) (l .coming) (l .st) (l .lv) (l .inv .3) (p .last .0) (p .last .1 .0)
+          (p .result) (p .ensures),
+      rw (at-size .size .ensures) (tried-sound (a .depth) (recordAt (a .recs .now) (l .i)) (l .done) (l .coming) (l .st) (l .lv) (l .inv .3)
+          (p .last .0) (p .last .1 .0) (p .result) (p .ensures) go),
+      tried-index (a .depth) (recordAt (a .recs .now) (l .i)) (l .done) (l .coming) (l .st) (l .lv) (l .inv .3) (p .last .0) (p .last .1 .0)
+          (p .result) (p .ensures) go,
+      rw (at-size .size .ensures) (size-within (p .result .state) (p .ensures .ran .fits)),
+      rw (c .size2 .ensures) (size-within (at-lookup .lookup .result) (at-lookup .lookup .ensures .fits)),
     )
 
 chain-add-i : (t : ℕ) → chain-lts.Need-add-i (chain-cs t) (chain-at t) chain.Post chain-Inv-loop chain-μ-loop
-chain-add-i t c = omega (arith, c .before .before .before .before .before .before .before .before .before .before .before .before .loop-test .taken, c .before .before .before .before .before .before .before .before .before .before .before .before .before .before .before .before .before .before .before .good)
+chain-add-i t c =
+    let at-loop-test = c .before .before .before .before .before .before .before .before .before .before .before .before in
+    let start = at-loop-test .before .before .before .before .before .before .before in
+    omega (arith, at-loop-test .loop-test .taken, start .good)
 
 chain-loop-less : (t : ℕ) → chain-lts.Need-loop-less (chain-cs t) (chain-at t) chain.Post chain-Inv-loop chain-μ-loop
 chain-loop-less t c = omega arith
 
 chain-loop-again : (t : ℕ) → chain-lts.Need-loop-again (chain-cs t) (chain-at t) chain.Post chain-Inv-loop chain-μ-loop
 chain-loop-again t c =
-    let a = c .before .before .before .before .before .before .before .before .before .before .before .before .before .before .before .before .before .before .before .args in
-    let l = c .before .before .before .before .before .before .before .before .before .before .before .before .before .loop in
-    let p = c .before .before .before .before .before .before .before .prepare in
-    let lt = c .before .before .before .before .before .before .before .before .before .before .before .before .loop-test .taken in
+    let at-prepare = c .before .before .before .before .before .before .before in
+    let at-loop-test = at-prepare .before .before .before .before .before in
+    let a = at-loop-test .before .before .before .before .before .before .before .args in
+    let l = at-loop-test .before .loop in
+    let p = at-prepare .prepare in
+    let lt = at-loop-test .loop-test .taken in
     let ws = a .book .now in
     let r = recordAt (a .recs .now) (l .i) in
     let turn : (done₂ coming₂ : List ℕ) (s₂ : State) (lv₂ : Slots) → length done₂ ≡ length (a .done .now) → length coming₂ ≡ length (a .coming .now)
-    → stageOf done₂ coming₂ s₂ lv₂ ≡ stepBy (nestedAt (a .given) (a .sets .now) (a .book .now) (a .depth)) (a .depth) r (stageOf (l .done) (l .coming) (l .st) (l .lv))
+    → stageOf done₂ coming₂ s₂ lv₂ ≡ stepBy (nestedAt (a .given) (a .sets .now) (a .book .now) (a .depth)) (a .depth) r
+    (stageOf (l .done) (l .coming) (l .st) (l .lv))
     → Neat lv₂ → Fits done₂ coming₂ (s₂ .place)
-    → chain-Inv-loop (a .done .now) (a .coming .now) (a .book .now) (a .starts .now) (a .count) (a .sets .now) (a .recs .now) (a .given) (a .depth) (a .s) (a .m) 0
+    → chain-Inv-loop (a .done .now) (a .coming .now) (a .book .now) (a .starts .now) (a .count) (a .sets .now) (a .recs .now) (a .given) (a .depth)
+    (a .s) (a .m) 0
     done₂ coming₂ s₂ lv₂ (l .i + 2) =
     λ done₂ coming₂ s₂ lv₂ u v e n f. (
       u,
       v,
       l .inv .2,
       still-able (a .given) (a .sets .now) ws (l .inv .2) (a .depth) r (l .done) (l .coming) (l .st) (l .lv) done₂ coming₂ s₂ lv₂ (l .inv .3) e n f,
-      records-turn (a .given) (a .sets .now) ws (a .depth) (a .recs .now) (l .i) (stageOf (l .done) (l .coming) (l .st) (l .lv)) (stageOf done₂ coming₂ s₂ lv₂) lt e
+      records-turn (a .given) (a .sets .now) ws (a .depth) (a .recs .now) (l .i) (stageOf (l .done) (l .coming) (l .st) (l .lv))
+          (stageOf done₂ coming₂ s₂ lv₂) lt e
           ∙ l .inv .4,
       omega arith,
     ) in
@@ -211,7 +239,8 @@ chain-loop-again t c =
     ∙ entry-run (l .inv .2) (a .given) (a .sets .now) (a .depth - 1) (getD (a .recs .now) (l .i + 1) 0) (w .3 .result) (w .3 .ensures)
     (runOf (p .last .0) (p .last .1 .0) (p .result .state)) in
     rw (w .14, w .15, w .16, w .17)
-    (turn (went .last .0) (went .last .1 .0) (went .result) (w .13 .result) (went .kept .0 ∙ p .kept .0 ∙ l .inv .0) (went .kept .1 .0 ∙ p .kept .1 .0 ∙ l .inv .1)
+    (turn (went .last .0) (went .last .1 .0) (went .result) (w .13 .result) (went .kept .0 ∙ p .kept .0 ∙ l .inv .0)
+    (went .kept .1 .0 ∙ p .kept .1 .0 ∙ l .inv .1)
     (turn-go (a .given) (a .sets .now) ws (a .depth) (a .recs .now) (l .i) lt (l .done) (l .coming) (l .st) (l .lv) (l .inv .3)
     (p .last .0) (p .last .1 .0) (p .result) (p .ensures) (w .0 .taken) (went .last .0) (went .last .1 .0) (went .result) (w .13 .result)
     (record { fits = went .ensures .fits; is = is }) lev)
@@ -223,27 +252,35 @@ chain-loop-again t c =
     (turn (p .last .0) (p .last .1 .0) (p .result .state) (p .result .level) (p .kept .0 ∙ l .inv .0) (p .kept .1 .0 ∙ l .inv .1)
     (turn-rest (a .given) (a .sets .now) ws (a .depth) (a .recs .now) (l .i) lt (l .done) (l .coming) (l .st) (l .lv) (l .inv .3)
     (p .last .0) (p .last .1 .0) (p .result) (p .ensures) (w .0 .left))
-    (ready-neat (a .depth) r (l .done) (l .coming) (l .st) (l .lv) (l .inv .3) (p .last .0) (p .last .1 .0) (p .result) (p .ensures)) (p .ensures .ran .fits)))
+    (ready-neat (a .depth) r (l .done) (l .coming) (l .st) (l .lv) (l .inv .3) (p .last .0) (p .last .1 .0) (p .result) (p .ensures))
+    (p .ensures .ran .fits)))
     (c .if1 .came)
 
 chain-finish-requires : (t : ℕ) → chain-lts.Need-finish-requires (chain-cs t) (chain-at t) chain.Post chain-Inv-loop chain-μ-loop
 chain-finish-requires t c κs = let a = c .before .before .before .loop .inv .3 in (a .fits, a .sound .within)
 
 chain-same-length : (t : ℕ) → chain-lts.Need-same-length (chain-cs t) (chain-at t) chain.Post chain-Inv-loop chain-μ-loop
-chain-same-length t c = c .before .before .before .before .finish .kept .0 ∙ c .before .before .before .before .before .before .before .before .loop .inv .0
+chain-same-length t c =
+    let at-finish = c .before .before .before .before in
+    at-finish .finish .kept .0 ∙ at-finish .before .before .before .before .loop .inv .0
 
 chain-same-length-2 : (t : ℕ) → chain-lts.Need-same-length-2 (chain-cs t) (chain-at t) chain.Post chain-Inv-loop chain-μ-loop
-chain-same-length-2 t c = c .before .before .before .before .finish .kept .1 .0 ∙ c .before .before .before .before .before .before .before .before .loop .inv .1
+chain-same-length-2 t c =
+    let at-finish = c .before .before .before .before in
+    at-finish .finish .kept .1 .0 ∙ at-finish .before .before .before .before .loop .inv .1
 
 chain-returns : (t : ℕ) → chain-lts.Need-returns (chain-cs t) (chain-at t) chain.Post chain-Inv-loop chain-μ-loop
 chain-returns t c =
-    let a = c .before .before .before .before .before .before .before .before .before .before .before .before .before .before .args in
-    let l = c .before .before .before .before .before .before .before .before .loop in
-    let f = c .before .before .before .before .finish .ensures in
+    let at-finish = c .before .before .before .before in
+    let at-loop-test = at-finish .before .before .before in
+    let a = at-loop-test .before .before .before .before .before .before .before .args in
+    let l = at-loop-test .before .loop in
+    let f = at-finish .finish .ensures in
     let first = stageOf (a .done .now) (a .coming .now) (a .s) (a .m) in
     let last = stageOf (l .done) (l .coming) (l .st) (l .lv) in
     let rs = recordsOf (a .recs .now) in
-    let e = sym (records-over (a .given) (a .sets .now) (a .book .now) (a .depth) (a .recs .now) (l .i) last (c .before .before .before .before .before .before .before .loop-test .left)) ∙ l .inv .4 in
+    let e = sym (records-over (a .given) (a .sets .now) (a .book .now) (a .depth) (a .recs .now) (l .i) last (at-loop-test .loop-test .left))
+    ∙ l .inv .4 in
     record {
       ran = record { fits = f .fits; is = f .is ∙ closed-is (a .given) (a .sets .now) (a .book .now) (a .depth) rs first last e };
       level = sym (l .inv .3 .neat) ∙ ap shown (closed-level (a .given) (a .sets .now) (a .book .now) (a .depth) rs first last e);
@@ -265,13 +302,21 @@ lookup-same-length-2 t c = c .before .before .before .before .act .kept .1 .0
 
 lookup-returns : (t : ℕ) → lookup-lts.Need-returns (lookup-cs t) (lookup-at t) lookup.Post
 lookup-returns t c =
-    let a = c .before .before .before .before .before .before .before .before .before .before .before .before .before .args in
-    let f = c .before .before .before .before .act .ensures in
-    let not-chain = sym (c .before .before .before .before .before .before .before .before .is-chain .ensures) ∙ not-true _ (c .before .before .before .before .before .before .before .if1 .taken) in
-    record { fits = f .fits; is = f .is ∙ look-acts (a .given) (a .sets .now) (a .book .now) (a .depth) (a .done .now) (a .coming .now) (a .s) (a .e) not-chain }
+    let at-act = c .before .before .before .before in
+    let at-if1 = at-act .before .before .before in
+    let a = at-if1 .before .before .before .before .before .before .args in
+    let f = at-act .act .ensures in
+    let not-chain = sym (at-if1 .before .is-chain .ensures) ∙ not-true _ (at-if1 .if1 .taken) in
+    record {
+      fits = f .fits;
+      is = f .is ∙ look-acts (a .given) (a .sets .now) (a .book .now) (a .depth) (a .done .now) (a .coming .now) (a .s)
+          (a .e) not-chain;
+    }
 
 lookup-take-aim-requires : (t : ℕ) → lookup-lts.Need-take-aim-requires (lookup-cs t) (lookup-at t) lookup.Post
-lookup-take-aim-requires t c κs = let s = c .before .before .before .before .before .before .before .before .before in (s .pre .1 .2, s .pre .1 .3, s .pre .1 .1)
+lookup-take-aim-requires t c κs =
+    let s = c .before .before .before .before .before .before .before .before .before in
+    (s .pre .1 .2, s .pre .1 .3, s .pre .1 .1)
 
 lookup-same-length-3 : (t : ℕ) → lookup-lts.Need-same-length-3 (lookup-cs t) (lookup-at t) lookup.Post
 lookup-same-length-3 t c = refl
@@ -281,28 +326,38 @@ lookup-same-length-4 t c = refl
 
 lookup-returns-2 : (t : ℕ) → lookup-lts.Need-returns-2 (lookup-cs t) (lookup-at t) lookup.Post
 lookup-returns-2 t c =
-    let s = c .before .before .before .before .before .before .before .before .before .before .before .before in
+    let at-take-aim = c .before .before in
+    let at-if1 = at-take-aim .before .before .before .before in
+    let s = at-if1 .before .before .before .before .before .before in
     let a = s .args in
-    let aim = c .before .before .take-aim in
-    let is-chain = sym (c .before .before .before .before .before .before .before .is-chain .ensures) ∙ not-false _ (c .before .before .before .before .before .before .if1 .left) in
+    let aim = at-take-aim .take-aim in
+    let is-chain = sym (at-if1 .before .is-chain .ensures) ∙ not-false _ (at-if1 .if1 .left) in
     record {
       fits = s .pre .1 .2;
-      is = look-miss (a .given) (a .sets .now) (a .book .now) (a .depth) (a .done .now) (a .coming .now) (a .s) (a .e) (aim .result) (aim .ensures) is-chain
+      is = look-miss (a .given) (a .sets .now) (a .book .now) (a .depth) (a .done .now) (a .coming .now) (a .s) (a .e) (aim .result)
+          (aim .ensures) is-chain
           (not-true _ (c .if2 .taken));
     }
 
 -- the level that the chain opens
 module _ (t : ℕ) (c : lookup-lts.After-chain-arg2 (lookup-cs t) (lookup-at t) lookup.Post) where
-  opens : let a = c .before .before .before .before .before .before .before .before .before .before .before .before .before .before .before .before .args in Opens (a .given) (a .sets .now) (a .book .now) (a .depth) (a .done .now) (a .coming .now) (a .s) (a .e) (c .before .before .before .before .before .before .take-aim .result)
+  opens :
+      let at-take-aim = c .before .before .before .before .before .before in
+      let a = at-take-aim .before .before .before .before .before .before .before .before .before .before .args in
+      Opens (a .given) (a .sets .now) (a .book .now) (a .depth) (a .done .now) (a .coming .now) (a .s) (a .e) (at-take-aim .take-aim .result)
   opens =
-      let s = c .before .before .before .before .before .before .before .before .before .before .before .before .before .before .before .before in
+      let at-if2 = c .before .before .before .before in
+      let s = at-if2 .before .before .before .before .before .before .before .before .before .before .before .before in
       let a = s .args in
-      let aim = c .before .before .before .before .before .before .take-aim in
-      aim-opens (a .given) (a .sets .now) (a .book .now) (a .depth) (a .done .now) (a .coming .now) (a .s) (a .e) (aim .result) (aim .ensures) (s .pre .1 .1)
-      (glyph-there (a .done .now) (a .coming .now) (a .s) (s .pre .1 .2) (s .pre .1 .3)) (not-false _ (c .before .before .before .before .if2 .left))
+      let aim = at-if2 .before .before .take-aim in
+      aim-opens (a .given) (a .sets .now) (a .book .now) (a .depth) (a .done .now) (a .coming .now) (a .s) (a .e) (aim .result) (aim .ensures)
+      (s .pre .1 .1)
+      (glyph-there (a .done .now) (a .coming .now) (a .s) (s .pre .1 .2) (s .pre .1 .3)) (not-false _ (at-if2 .if2 .left))
 
 lookup-mul-chain : (t : ℕ) → lookup-lts.Need-mul-chain (lookup-cs t) (lookup-at t) lookup.Post
-lookup-mul-chain t c = omega (arith, c .before .before .before .before .before .before .before .before .before .before .before .before .before .before .before .before .good, opens t c .ordered, opens t c .within)
+lookup-mul-chain t c =
+    let start = c .before .before .before .before .before .before .before .before .before .before .before .before .before .before .before .before in
+    omega (arith, start .good, opens t c .ordered, opens t c .within)
 
 lookup-sub-chain : (t : ℕ) → lookup-lts.Need-sub-chain (lookup-cs t) (lookup-at t) lookup.Post
 lookup-sub-chain t c = opens t c .ordered
@@ -315,7 +370,8 @@ lookup-part-chain-end t c = omega (arith, opens t c .ordered, opens t c .within)
 
 lookup-chain-requires : (t : ℕ) → lookup-lts.Need-chain-requires (lookup-cs t) (lookup-at t) lookup.Post
 lookup-chain-requires t c κs =
-    let s = c .before .before .before .before .before .before .before .before .before .before .before .before .before .before .before .before .before in
+    let s = c .before .before .before .before .before .before .before .before .before
+    .before .before .before .before .before .before .before .before in
     let q = opens t (c .before) in
     (omega (arith, s .pre .0), (s .pre .1 .0, record { fits = s .pre .1 .2; few = s .pre .1 .4; neat = q .neat; sound = q .sound }))
 
@@ -327,13 +383,16 @@ lookup-same-length-6 t c = c .before .before .before .before .before .chain .kep
 
 lookup-returns-3 : (t : ℕ) → lookup-lts.Need-returns-3 (lookup-cs t) (lookup-at t) lookup.Post
 lookup-returns-3 t c =
-    let a = c .before .before .before .before .before .before .before .before .before .before .before .before .before .before .before .before .before .before .before .before .before .before .before .args in
-    let aim = c .before .before .before .before .before .before .before .before .before .before .before .before .before .take-aim in
-    let f = c .before .before .before .before .before .chain .ensures .ran in
+    let at-chain = c .before .before .before .before .before in
+    let at-if2 = at-chain .before .before .before .before .before .before in
+    let a = at-if2 .before .before .before .before .before .before .before .before .before .before .before .before .args in
+    let aim = at-if2 .before .before .take-aim in
+    let f = at-chain .chain .ensures .ran in
     record {
       fits = f .fits;
       is = f .is
-          ∙ look-hit (a .given) (a .sets .now) (a .book .now) (a .depth) (a .done .now) (a .coming .now) (a .s) (a .e) (aim .result) (aim .ensures) (not-false _ (c .before .before .before .before .before .before .before .before .before .before .before .if2 .left));
+          ∙ look-hit (a .given) (a .sets .now) (a .book .now) (a .depth) (a .done .now) (a .coming .now) (a .s) (a .e) (aim .result) (aim .ensures)
+          (not-false _ (at-if2 .if2 .left));
     }
 
 pub +chain+lookup-spec : {M : Type 1} → statement M

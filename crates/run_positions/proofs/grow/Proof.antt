@@ -19,13 +19,20 @@ add-t11 : tie.Need-add-t11
 add-t11 c = search needs
 
 returns : tie.Need-returns
-returns c = let s = c .before .before .before .before .before in let a = s .args in rw (c .before .gained-slots .ensures) (grown-fits (a .lv) (a .i) (a .n) (s .pre .0) (s .pre .1) (c .before .before .before .if1 .taken))
+returns c =
+    let at-if1 = c .before .before .before in
+    let s = at-if1 .before .before in
+    let a = s .args in
+    rw (c .before .gained-slots .ensures) (grown-fits (a .lv) (a .i) (a .n) (s .pre .0) (s .pre .1) (at-if1 .if1 .taken))
 
 add-t7 : tie.Need-add-t7
 add-t7 c = omega (arith, limit-fits)
 
 returns-2 : tie.Need-returns-2
-returns-2 c = let s = c .before .before .before in let a = s .args in grown-stops (a .lv) (a .i) (a .n) (s .pre .0) (s .pre .1) (s .pre .3) (c .before .if1 .left)
+returns-2 c =
+    let s = c .before .before .before in
+    let a = s .args in
+    grown-stops (a .lv) (a .i) (a .n) (s .pre .0) (s .pre .1) (s .pre .3) (c .before .if1 .left)
 
 pub grow-spec : {M : Type 1} → statement M
 grow-spec =

@@ -13,7 +13,10 @@ element-copy-out-result : tie.Need-element-copy-out-result
 element-copy-out-result c = search needs
 
 returns : tie.Need-returns
-returns c = let s = c .before .before in let a = s .args in loss-before (a .at .now) (a .count) (a .own) (a .n) (s .pre .0) (s .pre .1) (a .j) (c .before .if1 .taken)
+returns c =
+    let s = c .before .before in
+    let a = s .args in
+    loss-before (a .at .now) (a .count) (a .own) (a .n) (s .pre .0) (s .pre .1) (a .j) (c .before .if1 .taken)
 
 add-if2 : tie.Need-add-if2
 add-if2 c = search needs
@@ -34,10 +37,16 @@ sub-result : tie.Need-sub-result
 sub-result c = let s = c .before .before .before in omega (arith, s .pre .0 .high (s .args .j + s .args .n) (c .before .if2 .taken))
 
 returns-2 : tie.Need-returns-2
-returns-2 c = let s = c .before .before .before in let a = s .args in loss-later (a .at .now) (a .count) (a .own) (a .n) (s .pre .0) (s .pre .1) (a .j) (c .before .before .if1 .left) (c .before .if2 .taken)
+returns-2 c =
+    let s = c .before .before .before in
+    let a = s .args in
+    loss-later (a .at .now) (a .count) (a .own) (a .n) (s .pre .0) (s .pre .1) (a .j) (c .before .before .if1 .left) (c .before .if2 .taken)
 
 returns-3 : tie.Need-returns-3
-returns-3 c = let s = c .before .before in let a = s .args in loss-past (a .at .now) (a .count) (a .own) (a .n) (s .pre .0) (s .pre .1) (a .j) (s .pre .2) (c .if2 .left)
+returns-3 c =
+    let s = c .before .before in
+    let a = s .args in
+    loss-past (a .at .now) (a .count) (a .own) (a .n) (s .pre .0) (s .pre .1) (a .j) (s .pre .2) (c .if2 .left)
 
 pub lost-slot-spec : {M : Type 1} → statement M
 lost-slot-spec =

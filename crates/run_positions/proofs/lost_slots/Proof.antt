@@ -37,10 +37,24 @@ loop-less : tie.Need-loop-less Inv-loop μ-loop
 loop-less c = omega arith
 
 loop-again : tie.Need-loop-again Inv-loop μ-loop
-loop-again c = let a = c .before .before .before .args in let l = c .before .before .loop in (omega arith, simp length-set (l .inv .1), filled-more (l .out) (l .j) _ (withLoss (a .i) (a .n) (take (a .count) (a .at .now))) (omega arith) (l .inv .2) (c .lost-slot .ensures), none-more (l .out) (l .j) _ (l .inv .3))
+loop-again c =
+    let a = c .before .before .before .args in
+    let l = c .before .before .loop in (
+      omega arith,
+      simp length-set (l .inv .1),
+      filled-more (l .out) (l .j) _ (withLoss (a .i) (a .n) (take (a .count) (a .at .now))) (omega arith)
+          (l .inv .2) (c .lost-slot .ensures),
+      none-more (l .out) (l .j) _ (l .inv .3),
+    )
 
 returns : tie.Need-returns Inv-loop μ-loop
-returns c = let l = c .before .loop in let s = c .before .before in let a = s .args in let long = loss-long (a .at .now) (a .count) (a .i) (a .n) (s .pre .0) (s .pre .1) (s .pre .2) in filled-few (l .out) (withLoss (a .i) (a .n) (take (a .count) (a .at .now))) (l .j) (l .inv .1) (omega (arith, long, c .loop-test .left)) (loss-few (a .at .now) (a .count) (a .i) (a .n) (s .pre .0) (s .pre .1) (s .pre .2)) (l .inv .2) (l .inv .3)
+returns c =
+    let l = c .before .loop in
+    let s = c .before .before in
+    let a = s .args in
+    let long = loss-long (a .at .now) (a .count) (a .i) (a .n) (s .pre .0) (s .pre .1) (s .pre .2) in
+    filled-few (l .out) (withLoss (a .i) (a .n) (take (a .count) (a .at .now))) (l .j) (l .inv .1) (omega (arith, long, c .loop-test .left))
+    (loss-few (a .at .now) (a .count) (a .i) (a .n) (s .pre .0) (s .pre .1) (s .pre .2)) (l .inv .2) (l .inv .3)
 
 pub lost-slots-spec : {M : Type 1} → statement M
 lost-slots-spec =

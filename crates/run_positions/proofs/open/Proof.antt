@@ -12,7 +12,8 @@ use Rattle.run.specs.Run.{fromDone}
 
 abbrev Inv-loop : tie.InvT-loop
 Inv-loop places count end idx d out₀ j₀ out j =
-    (j ≤ count) × (length out ≡ 64) × ((k : ℕ) → k < j → getD out k 0 ≡ getD (map (fromDone idx d) (take count places)) k 0) × ((k : ℕ) → j ≤ k → getD out k 0 ≡ 0)
+    (j ≤ count) × (length out ≡ 64) × ((k : ℕ) → k < j → getD out k 0 ≡ getD (map (fromDone idx d) (take count places)) k 0)
+    × ((k : ℕ) → j ≤ k → getD out k 0 ≡ 0)
 
 abbrev μ-loop : tie.MeasureT-loop
 μ-loop places count end idx d out₀ j₀ out j = count - j
@@ -36,7 +37,15 @@ loop-less : tie.Need-loop-less Inv-loop μ-loop
 loop-less c = omega arith
 
 loop-again : tie.Need-loop-again Inv-loop μ-loop
-loop-again c = let a = c .before .before .before .args in let l = c .before .before .loop in (omega arith, simp length-set (l .inv .1), filled-more (l .out) (l .j) _ (map (fromDone (a .idx) (a .d)) (take (a .count) (a .places .now))) (omega arith) (l .inv .2) (c .opened-slot .ensures), none-more (l .out) (l .j) _ (l .inv .3))
+loop-again c =
+    let a = c .before .before .before .args in
+    let l = c .before .before .loop in (
+      omega arith,
+      simp length-set (l .inv .1),
+      filled-more (l .out) (l .j) _ (map (fromDone (a .idx) (a .d)) (take (a .count) (a .places .now)))
+          (omega arith) (l .inv .2) (c .opened-slot .ensures),
+      none-more (l .out) (l .j) _ (l .inv .3),
+    )
 
 sub-t13 : tie.Need-sub-t13 Inv-loop μ-loop
 sub-t13 c = omega arith
@@ -45,7 +54,14 @@ add-t14 : tie.Need-add-t14 Inv-loop μ-loop
 add-t14 c = omega (arith, limit-fits)
 
 returns : tie.Need-returns Inv-loop μ-loop
-returns c = let s = c .before .before in let a = s .args in let l = c .before .loop in let m = open-many (a .idx) (a .d) (a .places .now) (a .count) (s .pre .0) (s .pre .1) in opened-is (a .idx) (a .d) (a .places .now) (a .count) (a .end) (l .out) m (filled-few (l .out) (map (fromDone (a .idx) (a .d)) (take (a .count) (a .places .now))) (l .j) (l .inv .1) (omega arith) (omega arith) (l .inv .2) (l .inv .3))
+returns c =
+    let s = c .before .before in
+    let a = s .args in
+    let l = c .before .loop in
+    let m = open-many (a .idx) (a .d) (a .places .now) (a .count) (s .pre .0) (s .pre .1) in
+    opened-is (a .idx) (a .d) (a .places .now) (a .count) (a .end) (l .out) m
+    (filled-few (l .out) (map (fromDone (a .idx) (a .d)) (take (a .count) (a .places .now))) (l .j) (l .inv .1) (omega arith) (omega arith)
+    (l .inv .2) (l .inv .3))
 
 pub open-spec : {M : Type 1} → statement M
 open-spec =

@@ -15,10 +15,16 @@ from-done-requires : tie.Need-from-done-requires
 from-done-requires c κs = search needs
 
 returns : tie.Need-returns
-returns c = let s = c .before .before .before in let a = s .args in c .from-done .ensures ∙ open-at (a .idx) (a .d) (a .places .now) (a .count) (s .pre .0) (s .pre .1) (a .j) (c .before .before .if1 .taken)
+returns c =
+    let s = c .before .before .before in
+    let a = s .args in
+    c .from-done .ensures ∙ open-at (a .idx) (a .d) (a .places .now) (a .count) (s .pre .0) (s .pre .1) (a .j) (c .before .before .if1 .taken)
 
 returns-2 : tie.Need-returns-2
-returns-2 c = let s = c .before in let a = s .args in open-past (a .idx) (a .d) (a .places .now) (a .count) (s .pre .0) (s .pre .1) (a .j) (c .if1 .left)
+returns-2 c =
+    let s = c .before in
+    let a = s .args in
+    open-past (a .idx) (a .d) (a .places .now) (a .count) (s .pre .0) (s .pre .1) (a .j) (c .if1 .left)
 
 pub opened-slot-spec : {M : Type 1} → statement M
 opened-slot-spec =

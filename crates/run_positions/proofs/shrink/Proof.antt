@@ -38,7 +38,13 @@ sub-t15 : tie.Need-sub-t15
 sub-t15 c = search needs
 
 returns : tie.Need-returns
-returns c = let s = c .before .before .before .before .before in let a = s .args in rw (c .lost-slots .ensures) (shrunk-is (a .lv) (a .i) (a .n) (s .pre .0) (s .pre .1) (c .before .before .before .least .result) (c .before .before .least2 .result) (c .before .before .before .least .ensures) (c .before .before .least2 .ensures))
+returns c =
+    let at-least2 = c .before .before in
+    let at-least = at-least2 .before in
+    let s = at-least .before .before in
+    let a = s .args in
+    rw (c .lost-slots .ensures) (shrunk-is (a .lv) (a .i) (a .n) (s .pre .0) (s .pre .1) (at-least .least .result) (at-least2 .least2 .result)
+    (at-least .least .ensures) (at-least2 .least2 .ensures))
 
 pub shrink-spec : {M : Type 1} → statement M
 shrink-spec =

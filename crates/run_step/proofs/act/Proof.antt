@@ -20,8 +20,12 @@ enum-known-e-2 c = search needs
 
 -- the ids of the entry
 module _ (c : tie.After-act-many-arg2) where
-  ids-inside : PartInside (length (c .before .before .before .before .before .before .before .before .args .book .now)) mostIds (c .before .before .before .e2 .given .0 .1 .1 .0)
-  ids-inside = rw (c .before .before .before .e2 .given .1) at (c .before .before .before .before .before .before .before .before .pre .2)
+  ids-inside : PartInside (length (c .before .before .before .before .before .before .before .before .args .book .now)) mostIds
+      (c .before .before .before .e2 .given .0 .1 .1 .0)
+  ids-inside =
+      let at-e2 = c .before .before .before in
+      let start = at-e2 .before .before .before .before .before in
+      rw (at-e2 .e2 .given .1) at (start .pre .2)
 
 mul-act-many : tie.Need-mul-act-many
 mul-act-many c = omega (arith, ids-inside c .ordered, ids-inside c .within)

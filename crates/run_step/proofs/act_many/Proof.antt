@@ -30,21 +30,26 @@ ended-requires c κs = search needs
 
 returns-2 : tie.Need-returns-2
 returns-2 c =
-    let s = c .before .before .before .before .before .before .before .before .before .before in
+    let at-is-full = c .before .before in
+    let at-read = at-is-full .before .before .before in
+    let s = at-read .before .before .before .before .before in
     let a = s .args in
-    let g = c .before .before .before .before .before .read in
-    let full = sym (c .before .before .is-full .ensures) ∙ c .before .if2 .taken in
+    let g = at-read .read in
+    let full = sym (at-is-full .is-full .ensures) ∙ c .before .if2 .taken in
     rw (c .ended .ensures)
-    (many-full (a .done .now) (a .coming .now) (a .s) (s .pre .0) (g .result) (g .ensures) (a .from) (a .ids .now) (c .before .before .before .if1 .left) full)
+    (many-full (a .done .now) (a .coming .now) (a .s) (s .pre .0) (g .result) (g .ensures) (a .from) (a .ids .now)
+    (at-is-full .before .if1 .left) full)
 
 replace-many-requires : tie.Need-replace-many-requires
 replace-many-requires c κs =
-    let s = c .before .before .before .before .before .before .before .before .before .before in
+    let at-is-full = c .before .before in
+    let at-read = at-is-full .before .before .before in
+    let s = at-read .before .before .before .before .before in
     let a = s .args in
-    let g = c .before .before .before .before .before .read in (
+    let g = at-read .read in (
       s .pre .0,
       inside (a .done .now) (a .coming .now) (a .s) (s .pre .0) (g .result) (g .ensures) (a .from) (s .pre .1),
-      room-for (s .pre .0) (length (a .ids .now)) (sym (c .before .before .is-full .ensures) ∙ c .before .if2 .left),
+      room-for (s .pre .0) (length (a .ids .now)) (sym (at-is-full .is-full .ensures) ∙ c .before .if2 .left),
     )
 
 parted-requires : tie.Need-parted-requires
@@ -55,12 +60,16 @@ same-length c = search needs
 
 returns-3 : tie.Need-returns-3
 returns-3 c =
-    let s = c .before .before .before .before .before .before .before .before .before .before .before .before .before .before in
+    let at-replace-many = c .before .before .before in
+    let at-is-full = at-replace-many .before .before .before in
+    let at-read = at-is-full .before .before .before in
+    let s = at-read .before .before .before .before .before in
     let a = s .args in
-    let g = c .before .before .before .before .before .before .before .before .before .read in
-    let room = sym (c .before .before .before .before .before .before .is-full .ensures) ∙ c .before .before .before .before .before .if2 .left in
+    let g = at-read .read in
+    let room = sym (at-is-full .is-full .ensures) ∙ at-replace-many .before .before .if2 .left in
     rw (c .parted .ensures)
-    (many-on (a .done .now) (a .coming .now) (a .s) (s .pre .0) (g .result) (g .ensures) (a .from) (a .ids .now) _ _ (c .before .before .before .before .before .before .before .if1 .left) room (c .before .before .before .replace-many .ensures))
+    (many-on (a .done .now) (a .coming .now) (a .s) (s .pre .0) (g .result) (g .ensures) (a .from)
+    (a .ids .now) _ _ (at-is-full .before .if1 .left) room (at-replace-many .replace-many .ensures))
 
 pub act-many-spec : {M : Type 1} → statement M
 act-many-spec =

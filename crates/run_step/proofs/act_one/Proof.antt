@@ -21,9 +21,10 @@ returns c =
 
 replace-one-requires : tie.Need-replace-one-requires
 replace-one-requires c κs =
-    let s = c .before .before .before .before .before .before .before in
+    let at-read = c .before .before .before in
+    let s = at-read .before .before .before .before in
     let a = s .args in
-    let g = c .before .before .before .read in
+    let g = at-read .read in
     (s .pre .0, inside (a .done .now) (a .coming .now) (a .s) (s .pre .0) (g .result) (g .ensures) (a .from) (s .pre .1))
 
 parted-requires : tie.Need-parted-requires
@@ -34,11 +35,14 @@ same-length c = search needs
 
 returns-2 : tie.Need-returns-2
 returns-2 c =
-    let s = c .before .before .before .before .before .before .before .before .before .before .before in
+    let at-replace-one = c .before .before .before in
+    let at-read = at-replace-one .before .before .before .before in
+    let s = at-read .before .before .before .before in
     let a = s .args in
-    let g = c .before .before .before .before .before .before .before .read in
+    let g = at-read .read in
     rw (c .parted .ensures)
-    (one-on (a .done .now) (a .coming .now) (a .s) (s .pre .0) (g .result) (g .ensures) (a .from) (a .to) _ _ (c .before .before .before .before .before .if1 .left) (c .before .before .before .replace-one .ensures))
+    (one-on (a .done .now) (a .coming .now) (a .s) (s .pre .0) (g .result) (g .ensures) (a .from)
+    (a .to) _ _ (at-replace-one .before .before .if1 .left) (at-replace-one .replace-one .ensures))
 
 pub act-one-spec : {M : Type 1} → statement M
 act-one-spec =

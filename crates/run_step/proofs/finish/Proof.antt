@@ -28,10 +28,12 @@ same-length-2 c = search needs
 
 returns-2 : tie.Need-returns-2
 returns-2 c =
-    let s = c .before .before .before .before .before .before .before .before .before .before .before .before .before in
+    let at-move-to = c .before .before .before .before .before in
+    let at-if1 = at-move-to .before .before .before .before in
+    let s = at-if1 .before .before .before .before in
     let a = s .args in
-    let on = sym (c .before .before .before .before .before .before .before .before .before .before .is-over .ensures) ∙ c .before .before .before .before .before .before .before .before .before .if1 .left in
-    rw (c .parted .ensures) (closed-moves (a .done .now) (a .coming .now) (a .s) (s .pre .0) (a .end) _ _ _ on (c .before .before .before .before .before .move-to .ensures))
+    let on = sym (at-if1 .before .is-over .ensures) ∙ at-if1 .if1 .left in
+    rw (c .parted .ensures) (closed-moves (a .done .now) (a .coming .now) (a .s) (s .pre .0) (a .end) _ _ _ on (at-move-to .move-to .ensures))
 
 pub finish-spec : {M : Type 1} → statement M
 finish-spec =

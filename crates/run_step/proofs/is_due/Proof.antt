@@ -20,10 +20,11 @@ returns-2 c =
 
 returns-3 : tie.Need-returns-3
 returns-3 c =
-    let s = c .before .before .before .before in
+    let at-is-over = c .before .before in
+    let s = at-is-over .before .before in
     let a = s .args in
-    let on = sym (c .before .before .is-over .ensures) ∙ c .before .if2 .left in
-    due-index (a .lv) (a .s .ending) _ (a .seq) (not-false _ (c .before .before .before .if1 .left)) on (s .pre .0) (c .if3 .taken)
+    let on = sym (at-is-over .is-over .ensures) ∙ c .before .if2 .left in
+    due-index (a .lv) (a .s .ending) _ (a .seq) (not-false _ (at-is-over .before .if1 .left)) on (s .pre .0) (c .if3 .taken)
 
 mul-p : tie.Need-mul-p
 mul-p c = search needs
@@ -39,11 +40,13 @@ size-requires c κs = search needs
 
 returns-4 : tie.Need-returns-4
 returns-4 c =
-    let s = c .before .before .before .before .before .before .before in
+    let at-if3 = c .before .before .before in
+    let at-if1 = at-if3 .before .before .before in
+    let s = at-if1 .before in
     let a = s .args in
-    let on = sym (c .before .before .before .before .before .is-over .ensures) ∙ c .before .before .before .before .if2 .left in
+    let on = sym (at-if3 .before .before .is-over .ensures) ∙ at-if3 .before .if2 .left in
     rw (c .size .ensures)
-    (due-place (a .lv) (a .s .ending) (sizeOf (a .s .place)) (a .seq) (not-false _ (c .before .before .before .before .before .before .if1 .left)) on (s .pre .0) (c .before .before .before .if3 .left))
+    (due-place (a .lv) (a .s .ending) (sizeOf (a .s .place)) (a .seq) (not-false _ (at-if1 .if1 .left)) on (s .pre .0) (at-if3 .if3 .left))
 
 pub is-due-spec : {M : Type 1} → statement M
 is-due-spec =

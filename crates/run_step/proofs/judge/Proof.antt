@@ -18,7 +18,9 @@ stop-requires-2 : tie.Need-stop-requires-2
 stop-requires-2 c κs = search needs
 
 returns-2 : tie.Need-returns-2
-returns-2 c = let a = c .before .before .before .before .args in c .stop2 .ensures ∙ judge-deep (a .depth) (a .s) (a .lv) (c .before .before .if1 .left) (c .before .if2 .taken)
+returns-2 c =
+    let a = c .before .before .before .before .args in
+    c .stop2 .ensures ∙ judge-deep (a .depth) (a .s) (a .lv) (c .before .before .if1 .left) (c .before .if2 .taken)
 
 spend-requires : tie.Need-spend-requires
 spend-requires c κs = (omega (arith, c .before .if1 .left), c .before .before .before .pre)
@@ -26,7 +28,8 @@ spend-requires c κs = (omega (arith, c .before .if1 .left), c .before .before .
 returns-3 : tie.Need-returns-3
 returns-3 c =
     let a = c .before .before .before .before .args in
-    ap (λ (s : State). record { go = true; state = s; level = a .lv }) (c .spend .ensures) ∙ judge-spend (a .depth) (a .s) (a .lv) (c .before .before .if1 .left) (c .before .if2 .left)
+    ap (λ (s : State). record { go = true; state = s; level = a .lv }) (c .spend .ensures)
+    ∙ judge-spend (a .depth) (a .s) (a .lv) (c .before .before .if1 .left) (c .before .if2 .left)
 
 pub judge-spec : {M : Type 1} → statement M
 judge-spec =

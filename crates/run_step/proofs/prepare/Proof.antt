@@ -22,7 +22,8 @@ returns : tie.Need-returns
 returns c =
     let s = c .before .before .before .before in
     let a = s .args in
-    prepared-none (a .done .now) (a .coming .now) (a .s) (a .lv) (a .seq) (a .depth) (s .pre) (sym (c .before .is-due .ensures) ∙ not-true _ (c .if1 .taken))
+    prepared-none (a .done .now) (a .coming .now) (a .s) (a .lv) (a .seq) (a .depth) (s .pre)
+    (sym (c .before .is-due .ensures) ∙ not-true _ (c .if1 .taken))
 
 -- the record is due
 module _ (c : tie.After-slots) where
@@ -33,7 +34,8 @@ module _ (c : tie.After-slots) where
   due =
       let s = c .before .before .before .before .before in
       let a = s .args in
-      due-shown (a .done .now) (a .coming .now) (a .s) (a .lv) (a .seq) (s .pre) (sym (c .before .before .is-due .ensures) ∙ not-false _ (c .before .if1 .left))
+      due-shown (a .done .now) (a .coming .now) (a .s) (a .lv) (a .seq) (s .pre)
+      (sym (c .before .before .is-due .ensures) ∙ not-false _ (c .before .if1 .left))
 
 mul-p : tie.Need-mul-p
 mul-p c = let s = c .before .before .before .before .before in omega (arith, due c .0, few-slots (s .args .lv) (s .pre .neat) (s .pre .sound))
@@ -45,13 +47,18 @@ cast-p : tie.Need-cast-p
 cast-p c = search needs
 
 move-to-requires : tie.Need-move-to-requires
-move-to-requires c κs = (c .before .before .before .before .before .before .before .before .pre .fits, omega (arith, due (c .before .before .before) .1))
+move-to-requires c κs =
+    let at-slots = c .before .before .before in
+    let start = at-slots .before .before .before .before .before in
+    (start .pre .fits, omega (arith, due at-slots .1))
 
 parted-requires : tie.Need-parted-requires
 parted-requires c κs = search needs
 
 judge-requires : tie.Need-judge-requires
-judge-requires c κs = rw (c .parted .ensures) (c .before .before .before .before .before .before .before .before .before .before .before .before .before .before .pre .few)
+judge-requires c κs =
+    let start = c .before .before .before .before .before .before .before .before .before .before .before .before .before .before in
+    rw (c .parted .ensures) (start .pre .few)
 
 same-length : tie.Need-same-length
 same-length c = search needs
@@ -61,12 +68,14 @@ same-length-2 c = search needs
 
 returns-2 : tie.Need-returns-2
 returns-2 c =
-    let s = c .before .before .before .before .before .before .before .before .before .before .before .before .before .before .before in
+    let at-move-to = c .before .before .before .before .before .before in
+    let at-slots = at-move-to .before .before .before .before in
+    let s = at-slots .before .before .before .before .before in
     let a = s .args in
-    let is = sym (c .before .before .before .before .before .before .before .before .before .before .before .before .is-due .ensures) ∙ not-false _ (c .before .before .before .before .before .before .before .before .before .before .before .if1 .left) in
+    let is = sym (at-slots .before .before .is-due .ensures) ∙ not-false _ (at-slots .before .if1 .left) in
     let told = c .judge .ensures ∙ ap (λ (x : State). judgedAt (a .depth) (x .left) x (a .lv)) (c .before .parted .ensures) in
     prepared-due (a .done .now) (a .coming .now) (a .s) (a .lv) (a .seq) _ _ _ (a .depth) _ (c .judge .result) (s .pre) is
-    (due (c .before .before .before .before .before .before .before .before .before .before) .2) (c .before .before .before .before .before .before .move-to .ensures) told
+    (due at-slots .2) (at-move-to .move-to .ensures) told
 
 pub prepare-spec : {M : Type 1} → statement M
 prepare-spec =

@@ -40,9 +40,12 @@ same-length c = search needs
 
 returns : tie.Need-returns
 returns c =
-    let a = c .before .before .before .before .before .before .before .before .before .before .before .args in
-    let p = c .before .before .put-matched .ensures in (
-      rw (reply-matched (a .m) _ _ (c .before .before .before .before .before .before .before .before .counted .result) (c .before .before .before .before .before .before .answer .given .1) (c .before .before .before .before .before .before .before .before .counted .ensures) (p .1 .0)) (p .0),
+    let at-put-matched = c .before .before in
+    let at-answer = at-put-matched .before .before .before .before in
+    let at-counted = at-answer .before .before in
+    let a = at-counted .before .before .before .args in
+    let p = at-put-matched .put-matched .ensures in (
+      rw (reply-matched (a .m) _ _ (at-counted .counted .result) (at-answer .answer .given .1) (at-counted .counted .ensures) (p .1 .0)) (p .0),
       p .1 .1,
     )
 
@@ -51,9 +54,11 @@ same-length-2 c = search needs
 
 returns-2 : tie.Need-returns-2
 returns-2 c =
-    let a = c .before .before .before .before .before .before .before .before .before .before .before .args in
-    let p = c .before .before .put-number .ensures in (
-      rw (reply-refused (a .m) _ (c .before .before .before .before .before .before .answer2 .given .1), ← c .before .before .before .refusal-number .ensures) p,
+    let at-put-number = c .before .before in
+    let at-answer2 = at-put-number .before .before .before .before in
+    let a = at-answer2 .before .before .before .before .before .args in
+    let p = at-put-number .put-number .ensures in (
+      rw (reply-refused (a .m) _ (at-answer2 .answer2 .given .1), ← at-put-number .before .refusal-number .ensures) p,
       number-fits _ _ _ (p .ends),
     )
 
@@ -62,18 +67,21 @@ same-length-3 c = search needs
 
 returns-3 : tie.Need-returns-3
 returns-3 c =
-    let a = c .before .before .before .before .before .before .before .before .before .before .args in
-    let p = c .before .before .put-extent .ensures in
-    (rw (reply-lost (a .m) _ (c .before .before .before .before .before .answer3 .given .1)) p, extent-fits _ _ _ (p .ends))
+    let at-put-extent = c .before .before in
+    let at-answer3 = at-put-extent .before .before .before in
+    let a = at-answer3 .before .before .before .before .before .args in
+    let p = at-put-extent .put-extent .ensures in
+    (rw (reply-lost (a .m) _ (at-answer3 .answer3 .given .1)) p, extent-fits _ _ _ (p .ends))
 
 same-length-4 : tie.Need-same-length-4
 same-length-4 c = search needs
 
 returns-4 : tie.Need-returns-4
 returns-4 c =
-    let a = c .before .before .before .before .before .before .before .before .before .args in
-    let p = c .before .before .put-number2 .ensures in
-    (rw (reply-ligature (a .m) (c .before .before .before .before .enum-told .given .1)) p, number-fits _ _ _ (p .ends))
+    let at-put-number2 = c .before .before in
+    let a = at-put-number2 .before .before .before .before .before .before .before .args in
+    let p = at-put-number2 .put-number2 .ensures in
+    (rw (reply-ligature (a .m) (at-put-number2 .before .before .enum-told .given .1)) p, number-fits _ _ _ (p .ends))
 
 pub put-answer-spec : {M : Type 1} → statement M
 put-answer-spec =

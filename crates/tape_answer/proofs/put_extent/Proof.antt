@@ -31,15 +31,18 @@ same-length c = search needs
 returns : tie.Need-returns
 unfolding digitsOf withNewline
 returns c =
-    let a = c .before .before .before .before .before .before .before .before .before .before .before .before .before .args in
+    let at-put-newline = c .before .before in
+    let at-put-half = at-put-newline .before .before .before .before in
+    let at-put-byte = at-put-half .before .before .before .before in
+    let a = at-put-byte .before .before .before .args in
     let two =
     put-then (a .out .now) (a .at) (a .at + 2) (digitsOf (4 ∷ [])) (digitsOf (half (a .extent)))
-    (c .before .before .before .before .before .before .before .before .before .before .put-byte .ensures) refl (c .before .before .before .before .before .before .put-half .ensures) (omega arith) in
+    (at-put-byte .put-byte .ensures) refl (at-put-half .put-half .ensures) (omega arith) in
     record {
       stored =
           put-then (a .out .now) (a .at) (a .at + 6) (digitsOf (4 ∷ half (a .extent))) (newline ∷ [])
-          two refl (c .before .before .put-newline .ensures .stored) (omega arith);
-      ends = omega (arith, c .before .before .put-newline .ensures .ends);
+          two refl (at-put-newline .put-newline .ensures .stored) (omega arith);
+      ends = omega (arith, at-put-newline .put-newline .ensures .ends);
     }
 
 pub put-extent-spec : {M : Type 1} → statement M

@@ -30,9 +30,11 @@ same-length c = search needs
 returns : tie.Need-returns
 unfolding digitsOf
 returns c =
-    let a = c .before .before .before .before .before .before .before .before .before .args in
+    let at-put-byte2 = c .before .before in
+    let at-put-byte = at-put-byte2 .before .before .before .before in
+    let a = at-put-byte .before .before .before .args in
     put-then (a .out .now) (a .at) (a .at + 2) (digitsOf (a .x / 256 % 256 ∷ [])) (digitsOf (a .x % 256 ∷ []))
-    (c .before .before .before .before .before .before .put-byte .ensures) refl (c .before .before .put-byte2 .ensures) (omega arith)
+    (at-put-byte .put-byte .ensures) refl (at-put-byte2 .put-byte2 .ensures) (omega arith)
 
 pub put-half-spec : {M : Type 1} → statement M
 put-half-spec =

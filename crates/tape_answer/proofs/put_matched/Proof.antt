@@ -60,30 +60,37 @@ same-length c = search needs
 returns : tie.Need-returns
 unfolding digitsOf withNewline
 returns c =
-    let a = c .before .before .before .before .before .before .before .before .before .before .before .before .before .before .before .before .before .before .before .before .before .before .before .before .before .before .args in
-    let h = c .before .before .before .before .before .before .before .before .before .before .before .before .before .before .before .before .before .before .before .before .before .before .before .before .before .before .pre in
+    let at-put-newline = c .before .before in
+    let at-put-positions = at-put-newline .before .before .before .before in
+    let at-put-byte2 = at-put-positions .before .before .before .before .before in
+    let at-put-half2 = at-put-byte2 .before .before .before .before in
+    let at-put-half = at-put-half2 .before .before .before .before in
+    let at-put-byte = at-put-half .before .before .before .before in
+    let start = at-put-byte .before .before .before in
+    let a = start .args in
+    let h = start .pre in
     let o = a .out .now in
     let ps = take (a .n) (a .positions .now) in
     let two =
     put-then o (a .at) (a .at + 2) (digitsOf (0 ∷ [])) (digitsOf (half (a .end)))
-    (c .before .before .before .before .before .before .before .before .before .before .before .before .before .before .before .before .before .before .before .before .before .before .before .put-byte .ensures) refl (c .before .before .before .before .before .before .before .before .before .before .before .before .before .before .before .before .before .before .before .put-half .ensures) (omega (arith, h .1)) in
+    (at-put-byte .put-byte .ensures) refl (at-put-half .put-half .ensures) (omega (arith, h .1)) in
     let three =
     put-then o (a .at) (a .at + 6) (digitsOf (0 ∷ half (a .end))) (digitsOf (half (a .total)))
-    two refl (c .before .before .before .before .before .before .before .before .before .before .before .before .before .before .before .put-half2 .ensures) (omega (arith, h .1)) in
+    two refl (at-put-half2 .put-half2 .ensures) (omega (arith, h .1)) in
     let four =
     put-then o (a .at) (a .at + 10) (digitsOf (0 ∷ half (a .end) ++ half (a .total))) (digitsOf (a .n ∷ []))
-    three refl (c .before .before .before .before .before .before .before .before .before .before .before .put-byte2 .ensures) (omega (arith, h .1)) in
+    three refl (at-put-byte2 .put-byte2 .ensures) (omega (arith, h .1)) in
     let five =
     put-then o (a .at) (a .at + 12) (digitsOf (0 ∷ half (a .end) ++ half (a .total) ++ (a .n ∷ []))) (digitsOf (halves ps))
-    four refl (c .before .before .before .before .before .before .put-positions .ensures) (omega (arith, h .1)) in
+    four refl (at-put-positions .put-positions .ensures) (omega (arith, h .1)) in
     let size : length (digitsOf (halves ps)) ≡ 4 * a .n = length-halves (a .positions .now) (a .n) (omega (arith, h .0)) in (
       record {
         stored =
             put-then o (a .at) (a .at + 12 + 4 * a .n) (digitsOf (0 ∷ matchedBytes (a .end ∷ a .total ∷ a .n ∷ ps))) (newline ∷ [])
-            five (omega (arith, size)) (c .before .before .put-newline .ensures .stored) (omega (arith, size, h .0, h .1));
-        ends = omega (arith, c .before .before .put-newline .ensures .ends, size, length-append (digitsOf (halves ps)) (newline ∷ []));
+            five (omega (arith, size)) (at-put-newline .put-newline .ensures .stored) (omega (arith, size, h .0, h .1));
+        ends = omega (arith, at-put-newline .put-newline .ensures .ends, size, length-append (digitsOf (halves ps)) (newline ∷ []));
       },
-      (omega arith, omega (arith, c .before .before .put-newline .ensures .ends, h .0)),
+      (omega arith, omega (arith, at-put-newline .put-newline .ensures .ends, h .0)),
     )
 
 pub put-matched-spec : {M : Type 1} → statement M

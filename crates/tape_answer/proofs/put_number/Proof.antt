@@ -25,12 +25,14 @@ same-length c = search needs
 returns : tie.Need-returns
 unfolding digitsOf withNewline
 returns c =
-    let a = c .before .before .before .before .before .before .before .before .before .args in
+    let at-put-newline = c .before .before in
+    let at-put-byte = at-put-newline .before .before .before .before in
+    let a = at-put-byte .before .before .before .args in
     record {
       stored =
           put-then (a .out .now) (a .at) (a .at + 2) (digitsOf (a .x ∷ [])) (newline ∷ [])
-          (c .before .before .before .before .before .before .put-byte .ensures) refl (c .before .before .put-newline .ensures .stored) (omega arith);
-      ends = omega (arith, c .before .before .put-newline .ensures .ends);
+          (at-put-byte .put-byte .ensures) refl (at-put-newline .put-newline .ensures .stored) (omega arith);
+      ends = omega (arith, at-put-newline .put-newline .ensures .ends);
     }
 
 pub put-number-spec : {M : Type 1} → statement M

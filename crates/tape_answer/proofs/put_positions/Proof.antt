@@ -53,10 +53,12 @@ loop-less c = search needs
 loop-again : tie.Need-loop-again Inv-loop μ-loop
 unfolding digitsOf
 loop-again c =
-    let a = c .before .before .before .before .before .before .before .before .before .args in
-    let l = c .before .before .before .before .before .before .loop in
+    let at-put-half = c .before .before in
+    let at-loop = at-put-half .before .before .before .before in
+    let a = at-loop .before .before .before .args in
+    let l = at-loop .loop in
     let ps = a .positions .now in
-    let p = c .before .before .put-half in
+    let p = at-put-half .put-half in
     let rest = digitsOf (halves (drop (l .i + 1) (take (a .n) ps))) in (
       omega arith,
       p .kept .0 ∙ l .inv .1,

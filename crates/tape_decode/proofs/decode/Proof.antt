@@ -29,11 +29,12 @@ unhex-requires c κs = search needs
 returns-2 : tie.Need-returns-2
 unfolding frameOf
 returns-2 c =
-    let a = c .before .before .before .before .before .before .args in
+    let at-unhex = c .before .before in
+    let a = at-unhex .before .before .before .before .args in
     let line = a .line .now in
     decodes-none (frameOf line) (a .values .now) (a .done .now) (a .coming .now)
     (ap (λ (t : Bool). cond t (readBytes (bytesOf line)) notFrame)
-    (sym (c .before .before .unhex .ensures .0) ∙ not-true (c .before .before .unhex .result) (c .if2 .taken)))
+    (sym (at-unhex .unhex .ensures .0) ∙ not-true (at-unhex .unhex .result) (c .if2 .taken)))
 
 sub-read-bytes : tie.Need-sub-read-bytes
 sub-read-bytes c = search needs
@@ -50,13 +51,15 @@ read-bytes-requires c κs = search needs
 returns-3 : tie.Need-returns-3
 unfolding frameOf
 returns-3 c =
-    let line = c .before .before .before .before .before .before .before .before .before .before .before .before .args .line .now in
-    let u = c .before .before .before .before .before .before .before .before .unhex in
-    let told = not-false (u .result) (c .before .before .before .before .before .before .if2 .left) in
+    let at-if2 = c .before .before .before .before .before .before in
+    let line = at-if2 .before .before .before .before .before .before .args .line .now in
+    let u = at-if2 .before .before .unhex in
+    let told = not-false (u .result) (at-if2 .if2 .left) in
     let bytes = u .last .1 .0 in
     let n : length line / 2 - 0 ≡ length line / 2 = omega arith in
     let got : take (length line / 2 - 0) (drop 0 bytes) ≡ bytesOf line =
-    rw (n, u .ensures .1 told) (front-put (replicate mostBytes 0) (bytesOf line) (length line / 2) (length-bytes line) (omega (arith, length-bytes line))) in
+    rw (n, u .ensures .1 told) (front-put (replicate mostBytes 0) (bytesOf line) (length line / 2) (length-bytes line)
+    (omega (arith, length-bytes line))) in
     rw (sym (u .ensures .0) ∙ told, ← got) (c .read-bytes .ensures)
 
 pub decode-spec : {M : Type 1} → statement M

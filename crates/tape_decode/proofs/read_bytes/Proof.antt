@@ -27,11 +27,15 @@ enum-told-3 c = search needs
 
 returns : tie.Need-returns
 unfolding readBytes
-returns c = rw (← c .before .before .before .before .before .before .kind-of .ensures, c .before .before .before .before .enum-told .given .1) (c .read-whole .ensures)
+returns c =
+    let at-enum-told = c .before .before .before .before in
+    rw (← at-enum-told .before .before .kind-of .ensures, at-enum-told .enum-told .given .1) (c .read-whole .ensures)
 
 returns-2 : tie.Need-returns-2
 unfolding readBytes
-returns-2 c = rw (← c .before .before .before .before .before .before .kind-of .ensures, c .before .before .before .before .enum-told2 .given .1) (c .read-whole2 .ensures)
+returns-2 c =
+    let at-enum-told2 = c .before .before .before .before in
+    rw (← at-enum-told2 .before .before .kind-of .ensures, at-enum-told2 .enum-told2 .given .1) (c .read-whole2 .ensures)
 
 returns-3 : tie.Need-returns-3
 unfolding readBytes

@@ -69,18 +69,20 @@ fill-requires-3 c κs =
 
 returns-2 : tie.Need-returns-2
 returns-2 c =
-    let head = c .before .before .before .before .before .before .before .before in
+    let at-coming-at = c .before .before in
+    let at-done-at = at-coming-at .before .before .before in
+    let head = at-done-at .before .before .before in
     let a = head .before .before .before .before .args in
     let b = a .b .now in
     let h = head .head-of .result in
     let e = head .head-of .ensures in
-    let from = c .before .before .before .before .before .done-at .ensures .0 in
-    let on = c .before .before .coming-at .ensures .0 in
+    let from = at-done-at .done-at .ensures .0 in
+    let on = at-coming-at .coming-at .ensures .0 in
     rw (whole-told head)
     record {
       answers = ap Decoded.Frame e;
-      values = c .before .before .before .before .before .before .fill .ensures ∙ ap (put (a .values .now) 0) (rows-values (a .table) b h e);
-      done = rw from at (c .before .before .before .fill2 .ensures) ∙ ap (put (a .done .now) 0) (rows-done (a .table) b h e);
+      values = at-done-at .before .fill .ensures ∙ ap (put (a .values .now) 0) (rows-values (a .table) b h e);
+      done = rw from at (at-coming-at .before .fill2 .ensures) ∙ ap (put (a .done .now) 0) (rows-done (a .table) b h e);
       coming = rw on at (c .fill3 .ensures) ∙ ap (put (a .coming .now) 0) (rows-coming (a .table) b h e);
     }
 

@@ -50,18 +50,22 @@ same-length c = search needs
 
 returns-2 : tie.Need-returns-2 Inv-loop μ-loop
 returns-2 c =
-    let line = c .before .before .before .before .before .before .before .before .before .before .args .line .now in
-    let l = c .before .before .before .before .before .before .loop in
-    (sym (sym (l .inv .2) ∙ spells-high line (l .i) (omega arith) (omega (arith, c .before .before .before .digit .ensures))), λ e. absurd (false≢true e))
+    let at-digit = c .before .before .before in
+    let at-loop = at-digit .before .before .before in
+    let line = at-loop .before .before .before .before .args .line .now in
+    let l = at-loop .loop in
+    (sym (sym (l .inv .2) ∙ spells-high line (l .i) (omega arith) (omega (arith, at-digit .digit .ensures))), λ e. absurd (false≢true e))
 
 same-length-2 : tie.Need-same-length-2 Inv-loop μ-loop
 same-length-2 c = search needs
 
 returns-3 : tie.Need-returns-3 Inv-loop μ-loop
 returns-3 c =
-    let line = c .before .before .before .before .before .before .before .before .before .before .before .args .line .now in
-    let l = c .before .before .before .before .before .before .before .loop in
-    (sym (sym (l .inv .2) ∙ spells-low line (l .i) (omega arith) (omega (arith, c .before .before .digit2 .ensures))), λ e. absurd (false≢true e))
+    let at-digit2 = c .before .before in
+    let at-loop = at-digit2 .before .before .before .before .before in
+    let line = at-loop .before .before .before .before .args .line .now in
+    let l = at-loop .loop in
+    (sym (sym (l .inv .2) ∙ spells-low line (l .i) (omega arith) (omega (arith, at-digit2 .digit2 .ensures))), λ e. absurd (false≢true e))
 
 mul-out : tie.Need-mul-out Inv-loop μ-loop
 mul-out c = search needs
@@ -80,15 +84,18 @@ loop-less c = search needs
 
 loop-again : tie.Need-loop-again Inv-loop μ-loop
 loop-again c =
-    let line = c .before .before .before .before .before .before .before .before .before .before .before .args .line .now in
-    let l = c .before .before .before .before .before .before .before .loop in
+    let at-digit2 = c .before .before in
+    let at-digit = at-digit2 .before .before in
+    let at-loop = at-digit .before .before .before in
+    let line = at-loop .before .before .before .before .args .line .now in
+    let l = at-loop .loop in
     let rest = bytesOf (drop (2 * (l .i + 1)) line) in
-    let high = c .before .before .before .before .digit .ensures in
-    let low = c .before .before .digit2 .ensures in (
+    let high = at-digit .digit .ensures in
+    let low = at-digit2 .digit2 .ensures in (
       omega arith,
-      length-set (l .out) (l .i) (c .before .before .before .before .digit .result * 16 + c .before .before .digit2 .result) ∙ l .inv .1,
+      length-set (l .out) (l .i) (at-digit .digit .result * 16 + at-digit2 .digit2 .result) ∙ l .inv .1,
       sym (spells-on line (l .i) (omega arith) (omega arith) (omega arith)) ∙ l .inv .2,
-      sym (put-cons (l .out) (l .i) (c .before .before .before .before .digit .result * 16 + c .before .before .digit2 .result) rest (omega arith))
+      sym (put-cons (l .out) (l .i) (at-digit .digit .result * 16 + at-digit2 .digit2 .result) rest (omega arith))
           ∙ rw (high, low) (ap (put (l .out) (l .i)) (sym (bytes-step line (l .i) (omega arith))) ∙ l .inv .3),
     )
 

@@ -26,9 +26,10 @@ enum-known-h c = search needs
 
 ask-requires : tie.Need-ask-requires
 ask-requires c κs =
-    let line = c .before .before .before .before .before .before .before .before .before .before .before .before .args .line .now in
-    told-bounded line (c .before .before .before .before .h .given .0 .0)
-    (frame-told (frameOf line) (c .before .before .before .before .h .given .0 .0) (sym (c .before .before .before .before .h .given .1) ∙ c .before .before .before .before .before .before .decode .ensures .answers))
+    let at-h = c .before .before .before .before in
+    let line = at-h .before .before .before .before .before .before .before .before .args .line .now in
+    told-bounded line (at-h .h .given .0 .0)
+    (frame-told (frameOf line) (at-h .h .given .0 .0) (sym (at-h .h .given .1) ∙ at-h .before .before .decode .ensures .answers))
 
 put-answer-requires : tie.Need-put-answer-requires
 put-answer-requires c κs = search needs
@@ -39,21 +40,33 @@ same-length c = search needs
 returns : tie.Need-returns
 unfolding answerLine
 returns c =
-    let line = c .before .before .before .before .before .before .before .before .before .before .before .before .args .line .now in
-    let p = c .before .before .put-number .ensures in
-    (rw (none-told (frameOf line) (sym (c .before .before .before .before .enum-told .given .1) ∙ c .before .before .before .before .before .before .decode .ensures .answers)) p, number-fits _ _ _ (p .ends))
+    let at-put-number = c .before .before in
+    let at-decode = at-put-number .before .before .before .before in
+    let line = at-decode .before .before .before .before .before .before .args .line .now in
+    let p = at-put-number .put-number .ensures in (
+      rw (none-told (frameOf line) (sym (at-put-number .before .before .enum-told .given .1) ∙ at-decode .decode .ensures .answers)) p,
+      number-fits _ _ _ (p .ends),
+    )
 
 same-length-2 : tie.Need-same-length-2
 same-length-2 c = search needs
 
 returns-2 : tie.Need-returns-2
 returns-2 c =
-    let line = c .before .before .before .before .before .before .before .before .before .before .before .before .before .before .before .before .before .args .line .now in
-    let d = c .before .before .before .before .before .before .before .before .before .before .before .decode in
-    let h = c .before .before .before .before .before .before .before .before .before .h .given .0 .0 in
-    let t = frame-told (frameOf line) h (sym (c .before .before .before .before .before .before .before .before .before .h .given .1) ∙ d .ensures .answers) in
-    let p = c .before .before .put-answer .ensures in
-    (rw (← told-answer line h t (d .result) (replicate mostValues 0) (d .last .1 .0) (replicate (words * mostGlyphs) 0) (d .last .1 .1 .0) (replicate (words * mostGlyphs) 0) (d .last .1 .1 .1 .0) (d .ensures) refl refl refl, ← c .before .before .before .before .ask .ensures) (p .0), p .1)
+    let at-put-answer = c .before .before in
+    let at-h = at-put-answer .before .before .before .before .before .before .before in
+    let line = at-h .before .before .before .before .before .before .before .before .args .line .now in
+    let d = at-h .before .before .decode in
+    let h = at-h .h .given .0 .0 in
+    let t = frame-told (frameOf line) h (sym (at-h .h .given .1) ∙ d .ensures .answers) in
+    let p = at-put-answer .put-answer .ensures in (
+      rw (
+        ← told-answer line h t (d .result) (replicate mostValues 0) (d .last .1 .0) (replicate (words * mostGlyphs) 0) (d .last .1 .1 .0)
+            (replicate (words * mostGlyphs) 0) (d .last .1 .1 .1 .0) (d .ensures) refl refl refl,
+        ← at-put-answer .before .before .ask .ensures,
+      ) (p .0),
+      p .1,
+    )
 
 pub answer-line-spec : {M : Type 1} → statement M
 answer-line-spec =

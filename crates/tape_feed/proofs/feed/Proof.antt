@@ -43,8 +43,10 @@ returns : tie.Need-returns Inv-loop μ-loop
 returns c =
     let l = c .before .before .loop in
     let a = c .before .before .before .before .before .before .args in (
-      leads-end (a .piece .now) (a .from) (take (a .n) (a .kept .now)) (a .out .now) (a .m) (l .at) (take (l .held) (l .kept)) (l .out) (l .written) (l .inv .5)
-          (taken-full (a .piece .now) (l .at) (length (l .out) - l .written) (take (l .held) (l .kept)) (c .before .loop-test .taken) (c .if1 .taken)),
+      leads-end (a .piece .now) (a .from) (take (a .n) (a .kept .now)) (a .out .now) (a .m) (l .at) (take (l .held) (l .kept)) (l .out) (l .written)
+          (l .inv .5)
+          (taken-full (a .piece .now) (l .at) (length (l .out) - l .written) (take (l .held) (l .kept)) (c .before .loop-test .taken)
+          (c .if1 .taken)),
       (
         (⊎-elim (λ h. h) (λ h. absurd (omega (arith, h, c .if1 .taken))) (l .inv .6), l .inv .0, l .inv .1, omega (arith, l .inv .3, l .inv .4)),
         λ h. omega (arith, c .if1 .taken, l .inv .3, l .inv .4),
@@ -65,10 +67,13 @@ loop-less c = search needs
 
 loop-again : tie.Need-loop-again Inv-loop μ-loop
 loop-again c =
-    let a = c .before .before .before .before .before .before .before .before .before .before .before .before .before .before .args in
-    let l = c .before .before .before .before .before .before .before .before .before .before .loop in
-    let t = c .before .before .before .before .take-byte in (
-      omega (arith, c .before .before .before .before .before .before .before .before .before .loop-test .taken),
+    let at-take-byte = c .before .before .before .before in
+    let at-if1 = at-take-byte .before .before .before .before in
+    let at-loop-test = at-if1 .before in
+    let a = at-loop-test .before .before .before .before .before .args in
+    let l = at-loop-test .before .loop in
+    let t = at-take-byte .take-byte in (
+      omega (arith, at-loop-test .loop-test .taken),
       t .ensures .1 .1 .0,
       t .kept .0 ∙ l .inv .2,
       t .kept .1 .1 .0 ∙ l .inv .3,
@@ -76,8 +81,8 @@ loop-again c =
       leads-on (a .piece .now) (a .from) (take (a .n) (a .kept .now)) (a .out .now) (a .m) (l .at)
           (take (l .held) (l .kept)) (l .out) (l .written)
           (take (t .result .kept) (t .last .0)) (t .last .1 .1 .0) (t .result .written)
-          (c .before .before .before .before .before .before .before .before .before .loop-test .taken)
-          (c .before .before .before .before .before .before .before .before .if1 .left)
+          (at-loop-test .loop-test .taken)
+          (at-if1 .if1 .left)
           (t .ensures .0) (t .ensures .1 .0) (t .kept .1 .1 .0) (t .ensures .1 .1 .1) (l .inv .5),
       inl (omega (arith, l .inv .7)),
       omega (arith, l .inv .7),
@@ -91,10 +96,12 @@ same-length-4 c = search needs
 
 returns-2 : tie.Need-returns-2 Inv-loop μ-loop
 returns-2 c =
+    let start = c .before .before .before .before .before in
     let l = c .before .loop in
-    let a = c .before .before .before .before .before .args in
-    let r = c .before .before .before .before .before .pre in (
-      leads-end (a .piece .now) (a .from) (take (a .n) (a .kept .now)) (a .out .now) (a .m) (l .at) (take (l .held) (l .kept)) (l .out) (l .written) (l .inv .5)
+    let a = start .args in
+    let r = start .pre in (
+      leads-end (a .piece .now) (a .from) (take (a .n) (a .kept .now)) (a .out .now) (a .m) (l .at) (take (l .held) (l .kept)) (l .out) (l .written)
+          (l .inv .5)
           (taken-all (a .piece .now) (l .at) (length (l .out) - l .written) (take (l .held) (l .kept)) (c .loop-test .left)),
       (
         (omega (arith, r .0), l .inv .0, l .inv .1, omega (arith, l .inv .3, l .inv .4)),

@@ -33,12 +33,15 @@ same-length-2 c = search needs
 
 returns : tie.Need-returns
 returns c =
-    let a = c .before .before .before .before .before .before .before .before .before .args in
+    let at-answer-line = c .before .before in
+    let at-if1 = at-answer-line .before .before .before .before in
+    let a = at-if1 .before .before .before .args in
     let held = take (a .n) (a .kept .now) in
-    let p = c .before .before .answer-line .ensures in
+    let p = at-answer-line .answer-line .ensures in
     let z : a .n - 0 ≡ a .n = omega arith in
-    let q : Puts (a .out .now) (a .m) (answerLine held) (c .before .before .answer-line .last .1 .0) (c .before .before .answer-line .result) = rw z at (p .0) in
-    let newline-told : a .b ≡ newline = c .before .before .before .before .before .before .if1 .taken in
+    let q : Puts (a .out .now) (a .m) (answerLine held) (at-answer-line .answer-line .last .1 .0) (at-answer-line .answer-line .result) =
+    rw z at (p .0) in
+    let newline-told : a .b ≡ newline = at-if1 .if1 .taken in
     (sym (after-newline held (a .b) newline-told), (rw (answer-newline held (a .b) newline-told) q, (omega arith, omega (arith, p .1))))
 
 slice-write-kept : tie.Need-slice-write-kept

@@ -49,17 +49,19 @@ cast-t14 c = search needs
 returns : tie.Need-returns
 unfolding frameIn
 returns c =
-    let opening = c .before .before .before .before .before .before in
-    let a = c .before .before .before .before .before .before .before .before .before .args in
+    let at-value-count = c .before .before in
+    let at-word-at = at-value-count .before .before .before in
+    let opening = at-word-at .before in
+    let a = opening .before .before .before .args in
     let b = a .b .now in
     let settings : opening .settings-of .result ≡ settingsOf (a .table) (getD b 4 0) =
     opening .settings-of .ensures ∙ ap (settingsOf (a .table)) (opening .before .byte-at .ensures) in
     rw (
       settings,
-      c .before .before .before .before .before .word-at .ensures,
-      c .before .before .before .before .word-at2 .ensures,
-      c .before .before .before .half-at .ensures,
-      c .before .before .value-count .ensures,
+      at-word-at .word-at .ensures,
+      at-value-count .before .before .word-at2 .ensures,
+      at-value-count .before .half-at .ensures,
+      at-value-count .value-count .ensures,
       c .before .done-count .ensures,
       c .coming-count .ensures,
       length-words (valueCount b) valuesAt b,

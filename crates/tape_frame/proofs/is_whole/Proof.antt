@@ -40,11 +40,12 @@ byte-at-requires c κs = search needs
 returns : tie.Need-returns
 unfolding isWhole
 returns c =
+    let at-coming-count = c .before .before in
     rw (
       c .before .coming-at .ensures .0,
-      ← c .before .before .before .before .value-count .ensures,
-      ← c .before .before .before .done-count .ensures,
-      ← c .before .before .coming-count .ensures,
+      ← at-coming-count .before .before .value-count .ensures,
+      ← at-coming-count .before .done-count .ensures,
+      ← at-coming-count .coming-count .ensures,
       ← c .byte-at .ensures,
     )
 

@@ -16,11 +16,15 @@ opens-requires-2 c κs = search needs
 
 returns-2 : tie.Need-returns-2
 unfolding tableKind
-returns-2 c = rw (← c .before .before .before .before .opens .ensures, c .before .before .before .if1 .left, ← c .before .opens2 .ensures, c .if2 .taken)
+returns-2 c =
+    let at-if1 = c .before .before .before in
+    rw (← at-if1 .before .opens .ensures, at-if1 .if1 .left, ← c .before .opens2 .ensures, c .if2 .taken)
 
 returns-3 : tie.Need-returns-3
 unfolding tableKind
-returns-3 c = rw (← c .before .before .before .before .opens .ensures, c .before .before .before .if1 .left, ← c .before .opens2 .ensures, c .if2 .left)
+returns-3 c =
+    let at-if1 = c .before .before .before in
+    rw (← at-if1 .before .opens .ensures, at-if1 .if1 .left, ← c .before .opens2 .ensures, c .if2 .left)
 
 pub kind-of-spec : {M : Type 1} → statement M
 kind-of-spec = tie.close (tie.spec opens-requires returns opens-requires-2 returns-2 returns-3)

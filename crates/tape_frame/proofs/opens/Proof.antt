@@ -29,10 +29,11 @@ element-copy-out-result-4 c = search needs
 
 returns : tie.Need-returns
 returns c =
+    let at-byte-at3 = c .before .before .before in
     rw (
-      ← c .before .before .before .before .before .before .before .byte-at .ensures,
-      ← c .before .before .before .before .before .byte-at2 .ensures,
-      ← c .before .before .before .byte-at3 .ensures,
+      ← at-byte-at3 .before .before .before .before .byte-at .ensures,
+      ← at-byte-at3 .before .before .byte-at2 .ensures,
+      ← at-byte-at3 .byte-at3 .ensures,
       ← c .before .byte-at4 .ensures,
     )
 

@@ -12,10 +12,14 @@ sub-n c = let q = c .before .before in let z = sizes (q .args .done .now) (q .ar
 
 clear-requires : tie.Need-clear-requires
 unfolding limit
-clear-requires c κs = let q = c .before .before .before in let z = sizes (q .args .done .now) (q .args .coming .now) (q .args .s) (q .pre) in omega arith
+clear-requires c κs =
+    let q = c .before .before .before in
+    let z = sizes (q .args .done .now) (q .args .coming .now) (q .args .s) (q .pre) in omega arith
 
 clear-requires-2 : tie.Need-clear-requires-2
-clear-requires-2 c κs = let q = c .before .before .before .before .before .before .before in let z = sizes (q .args .done .now) (q .args .coming .now) (q .args .s) (q .pre) in omega arith
+clear-requires-2 c κs =
+    let q = c .before .before .before .before .before .before .before in
+    let z = sizes (q .args .done .now) (q .args .coming .now) (q .args .s) (q .pre) in omega arith
 
 same-length : tie.Need-same-length
 same-length c = search needs
@@ -25,8 +29,14 @@ same-length-2 c = search needs
 
 returns : tie.Need-returns
 unfolding limit
-returns c = let q = c .before .before .before .before .before .before .before .before .before .before in let y = c .before .before .before .before .before .before .clear in let x = c .before .before .clear2 in
-    cleared-is (q .args .done .now) (q .args .coming .now) (q .args .s) (q .pre) (y .last .0) (x .last .0) (y .kept .0) (x .kept .0) (y .ensures) (x .ensures)
+returns c =
+    let at-clear2 = c .before .before in
+    let at-clear = at-clear2 .before .before .before .before in
+    let q = at-clear .before .before .before .before in
+    let y = at-clear .clear in
+    let x = at-clear2 .clear2 in
+    cleared-is (q .args .done .now) (q .args .coming .now) (q .args .s) (q .pre) (y .last .0) (x .last .0) (y .kept .0) (x .kept .0) (y .ensures)
+    (x .ensures)
 
 pub clear-outside-spec : {M : Type 1} → statement M
 clear-outside-spec =

@@ -25,7 +25,8 @@ loop-holds c = let q = c .before .before .before in let z = sizes (q .args .done
   refl,
   omega arith,
   omega arith,
-  paste-zero (glyphsOf (q .args .done .now)) (q .args .s .d) (copies (q .args .ids .now) (getD (glyphsOf (q .args .coming .now)) (q .args .s .idx) blank)),
+  paste-zero (glyphsOf (q .args .done .now)) (q .args .s .d)
+      (copies (q .args .ids .now) (getD (glyphsOf (q .args .coming .now)) (q .args .s .idx) blank)),
 )
 
 mul-id : tie.Need-mul-id Inv-loop μ-loop
@@ -41,8 +42,10 @@ add-write : tie.Need-add-write Inv-loop μ-loop
 add-write c = omega arith
 
 write-requires : tie.Need-write-requires Inv-loop μ-loop
-write-requires c κs = let l = c .before .before .before .loop in
-    omega (arith, length-same (l .done) (c .before .before .before .before .before .before .before .args .done .now) (l .inv .1))
+write-requires c κs =
+    let at-loop = c .before .before .before in
+    let l = at-loop .loop in
+    omega (arith, length-same (l .done) (at-loop .before .before .before .before .args .done .now) (l .inv .1))
 
 add-k : tie.Need-add-k Inv-loop μ-loop
 add-k c = omega arith
@@ -51,20 +54,30 @@ loop-less : tie.Need-loop-less Inv-loop μ-loop
 loop-less c = omega arith
 
 loop-again : tie.Need-loop-again Inv-loop μ-loop
-loop-again c = let a = c .before .before .before .before .before .before .before .before .before .before .args in let l = c .before .before .before .before .before .before .loop in let y = c .before .before .write in (
-  omega arith,
-  y .kept .0 ∙ l .inv .1,
-  l .inv .2,
-  l .inv .3,
-  y .ensures
-      ∙ rw (l .inv .4) (copies-more written (glyphsOf (a .done .now)) (a .s .d) (l .k) (a .ids .now) (getD (glyphsOf (a .coming .now)) (a .s .idx) blank) (omega arith) (omega arith)),
-)
+loop-again c =
+    let at-write = c .before .before in
+    let at-loop = at-write .before .before .before .before in
+    let a = at-loop .before .before .before .before .args in
+    let l = at-loop .loop in
+    let y = at-write .write in (
+      omega arith,
+      y .kept .0 ∙ l .inv .1,
+      l .inv .2,
+      l .inv .3,
+      y .ensures
+          ∙ rw (l .inv .4) (copies-more written (glyphsOf (a .done .now)) (a .s .d) (l .k) (a .ids .now)
+          (getD (glyphsOf (a .coming .now)) (a .s .idx) blank) (omega arith) (omega arith)),
+    )
 
 add-past : tie.Need-add-past Inv-loop μ-loop
-add-past c = let q = c .before .before .before .before .before in let z = sizes (q .args .done .now) (q .args .coming .now) (q .args .s) (q .pre .0) in omega arith
+add-past c =
+    let q = c .before .before .before .before .before in
+    let z = sizes (q .args .done .now) (q .args .coming .now) (q .args .s) (q .pre .0) in omega arith
 
 add-next : tie.Need-add-next Inv-loop μ-loop
-add-next c = let q = c .before .before .before .before .before in let z = sizes (q .args .done .now) (q .args .coming .now) (q .args .s) (q .pre .0) in omega arith
+add-next c =
+    let q = c .before .before .before .before .before in
+    let z = sizes (q .args .done .now) (q .args .coming .now) (q .args .s) (q .pre .0) in omega arith
 
 same-length : tie.Need-same-length Inv-loop μ-loop
 same-length c = c .before .loop .inv .1
@@ -72,7 +85,8 @@ same-length c = c .before .loop .inv .1
 returns : tie.Need-returns Inv-loop μ-loop
 returns c = let q = c .before .before .before .before .before in let a = q .args in let l = c .before .loop in
     let e : l .k ≡ length (a .ids .now) = omega arith in
-    replaced-is (a .done .now) (a .coming .now) (a .s) (q .pre .0) written (l .done) (a .ids .now) (l .inv .1) (q .pre .1) (q .pre .2) (rw e at (l .inv .4))
+    replaced-is (a .done .now) (a .coming .now) (a .s) (q .pre .0) written (l .done) (a .ids .now) (l .inv .1) (q .pre .1) (q .pre .2)
+    (rw e at (l .inv .4))
 
 pub replace-many-spec : {M : Type 1} → statement M
 replace-many-spec =

@@ -11,7 +11,9 @@ use Rattle.text.proofs.replace_one.Statement.{statement}
 use Rattle.text.proofs.replace_one.Tie as tie
 
 write-requires : tie.Need-write-requires
-write-requires c κs = let q = c .before .before .before in let z = sizes (q .args .done .now) (q .args .coming .now) (q .args .s) (q .pre .0) in omega arith
+write-requires c κs =
+    let q = c .before .before .before in
+    let z = sizes (q .args .done .now) (q .args .coming .now) (q .args .s) (q .pre .0) in omega arith
 
 add-past : tie.Need-add-past
 add-past c = search needs

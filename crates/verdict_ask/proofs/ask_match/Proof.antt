@@ -15,7 +15,9 @@ unfolding askMatch
 returns c = rw (← c .before .is-bad-place .ensures, c .if1 .taken)
 
 read-requires : tie.Need-read-requires
-read-requires c κs = let a = c .before .before .before .args in good-place (a .row .now) (a .place) (sym (c .before .is-bad-place .ensures) ∙ c .if1 .left)
+read-requires c κs =
+    let a = c .before .before .before .args in
+    good-place (a .row .now) (a .place) (sym (c .before .is-bad-place .ensures) ∙ c .if1 .left)
 
 slice-aggregate-may-match : tie.Need-slice-aggregate-may-match
 slice-aggregate-may-match c = search needs
@@ -25,7 +27,10 @@ may-match-requires c κs = search needs
 
 returns-2 : tie.Need-returns-2
 unfolding askMatch
-returns-2 c = rw (← c .before .before .before .before .is-bad-place .ensures, c .before .before .before .if1 .left, ← c .before .before .read .ensures) (ap MatchAnswer.Said (c .may-match .ensures))
+returns-2 c =
+    let at-read = c .before .before in
+    rw (← at-read .before .before .is-bad-place .ensures, at-read .before .if1 .left, ← at-read .read .ensures)
+    (ap MatchAnswer.Said (c .may-match .ensures))
 
 pub ask-match-spec : {M : Type 1} → statement M
 ask-match-spec =

@@ -27,7 +27,10 @@ judge-requires c κs = search needs
 
 returns-2 : tie.Need-returns-2
 unfolding askVerdict
-returns-2 c = rw (← c .before .before .before .before .is-refused .ensures, c .before .before .before .if1 .left, ← c .before .before .read .ensures) (ap VerdictAnswer.Said (c .judge .ensures))
+returns-2 c =
+    let at-read = c .before .before in
+    rw (← at-read .before .before .is-refused .ensures, at-read .before .if1 .left, ← at-read .read .ensures)
+    (ap VerdictAnswer.Said (c .judge .ensures))
 
 pub ask-verdict-spec : {M : Type 1} → statement M
 ask-verdict-spec = tie.close (tie.spec is-refused-requires returns read-requires slice-aggregate-judge judge-requires returns-2)

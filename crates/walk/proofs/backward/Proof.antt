@@ -43,12 +43,13 @@ backward-from-requires c κs = omega (arith, good (c .before .before), c .before
 returns-2 : tie.Need-returns-2
 unfolding backwardOf
 returns-2 c =
-    let e = c .before .before .before in
+    let at-cross-behind = c .before .before in
+    let e = at-cross-behind .before in
     let a = e .before .before .before .before .before .args in
     let gs = glyphsOf (a .row .now) in
     let v = judgeAt (a .m) (valueOf (a .sign) []) (a .syllable) (a .sets .now) gs in
-    let from = c .before .before .cross-behind .result in
-    let seen = c .before .before .cross-behind .ensures in
+    let from = at-cross-behind .cross-behind .result in
+    let seen = at-cross-behind .cross-behind .ensures in
     let over = stretch-passed (a .m) (valueOf (a .sign) []) (a .syllable) (a .sets .now) gs from (a .place) (seen .1) in
     rw (← e .before .before .count .ensures, ← e .before .is-bad-walk .ensures, e .if1 .left)
     (c .backward-from .ensures ∙ sym (walk-past-back v (a .place) from (seen .0) over))

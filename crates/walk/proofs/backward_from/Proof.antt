@@ -1,4 +1,5 @@
--- The walk back from where it began is the walk back from after p, the next place to test: what is between was passed over. Each turn tests one place.
+-- The walk back from where it began is the walk back from after p, the next place to test: what is between was passed over. Each turn tests one
+-- place.
 -- Assumes nothing.
 use Prim.Native.Nat.{ℕ, _+_, _-_, _<_, max}
 use mathlib.Core.Logic.{⊎-elim}
@@ -20,7 +21,8 @@ use Rattle.walk.proofs.backward_from.Tie as tie
 
 abbrev Inv-loop : tie.InvT-loop
 Inv-loop row place m sign lists syllable sets p₀ p =
-    (p < place) × (walkBack (judgeAt m (valueOf sign lists) syllable sets (glyphsOf row)) place ≡ walkBack (judgeAt m (valueOf sign lists) syllable sets (glyphsOf row)) (p + 1))
+    (p < place) × (walkBack (judgeAt m (valueOf sign lists) syllable sets (glyphsOf row)) place
+    ≡ walkBack (judgeAt m (valueOf sign lists) syllable sets (glyphsOf row)) (p + 1))
 
 abbrev μ-loop : tie.MeasureT-loop
 μ-loop row place m sign lists syllable sets p₀ p = p
@@ -64,15 +66,18 @@ module _ (c : tie.After-is-skip-yes Inv-loop μ-loop) where
 
   -- a turn whose verdict is r
   turn : (r : Verdict) → judge tested ≡ r
-      → walkBack judge (c .before .before .before .before .before .before .before .before .args .place) ≡ onVerdictBack r tested (walkBack judge tested)
+      → walkBack judge (c .before .before .before .before .before .before .before .before .args .place)
+      ≡ onVerdictBack r tested (walkBack judge tested)
   turn r e =
       let l = c .before .before .loop in
       l .inv .1 ∙ back-on-by judge (l .p + 1) tested (omega arith) r e
 
   -- what was asked of the glyph that was read
-  asked : c .is-skip-yes .result
-      ≡ skipYes (c .before .before .before .before .before .before .before .before .args .m) (c .before .before .before .before .before .before .before .before .args .sets .now)
-      (getD (glyphsOf (c .before .before .before .before .before .before .before .before .args .row .now)) tested blank)
+  asked :
+      let start = c .before .before .before .before .before .before .before .before in
+      c .is-skip-yes .result
+      ≡ skipYes (start .args .m) (start .args .sets .now)
+      (getD (glyphsOf (start .args .row .now)) tested blank)
   asked =
       let a = c .before .before .before .before .before .before .before .before .args in
       c .is-skip-yes .ensures ∙ ap (skipYes (a .m) (a .sets .now)) (c .before .read .ensures)
@@ -121,7 +126,8 @@ module _ (c : tie.Joined2 Inv-loop μ-loop) where
       (λ w.
       let a = d .before .before .before .before .before .before .before .before .args in
       let gs = glyphsOf (a .row .now) in
-      judged-yes (a .m) (valueOf (a .sign) (a .lists .now)) (a .syllable) (a .sets .now) gs (tested d) (getD gs (tested d) blank) (d .is-skip-yes .result) refl (asked d)
+      judged-yes (a .m) (valueOf (a .sign) (a .lists .now)) (a .syllable) (a .sets .now) gs (tested d) (getD gs (tested d) blank)
+      (d .is-skip-yes .result) refl (asked d)
       (not-false (d .is-skip-yes .result) (w .left)))
       (c .if2 .came)
 

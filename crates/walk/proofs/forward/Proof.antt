@@ -23,8 +23,10 @@ returns c = rw (← c .before .is-bad-walk .ensures, c .if1 .taken)
 
 -- where the walk isn't refused
 module _ (e : tie.Else1) where
-  good : (e .before .before .before .before .args .place ≤ e .before .before .before .before .args .len)
-      × (e .before .before .before .before .args .len ≤ length (glyphsOf (e .before .before .before .before .args .row .now)))
+  good :
+      let start = e .before .before .before .before in
+      (start .args .place ≤ start .args .len)
+      × (start .args .len ≤ length (glyphsOf (start .args .row .now)))
   good =
       let a = e .before .before .before .before .args in
       good-walk (a .row .now) (a .len) (a .place) (a .sets .now) (sym (e .before .is-bad-walk .ensures) ∙ e .if1 .left)
@@ -44,12 +46,13 @@ forward-on-requires c κs = good (c .before .before) .1
 returns-2 : tie.Need-returns-2
 unfolding forwardOf
 returns-2 c =
-    let e = c .before .before .before in
+    let at-cross-ahead = c .before .before in
+    let e = at-cross-ahead .before in
     let a = e .before .before .before .before .args in
     let gs = glyphsOf (a .row .now) in
     let v = judgeAt (a .m) (valueOf (a .sign) []) (a .syllable) (a .sets .now) gs in
-    let from = c .before .before .cross-ahead .result in
-    let seen = c .before .before .cross-ahead .ensures in
+    let from = at-cross-ahead .cross-ahead .result in
+    let seen = at-cross-ahead .cross-ahead .ensures in
     let over = stretch-passed (a .m) (valueOf (a .sign) []) (a .syllable) (a .sets .now) gs (a .place + 1) from (seen .2) in
     rw (← e .before .is-bad-walk .ensures, e .if1 .left)
     (c .forward-on .ensures ∙ sym (walk-past v (a .len) (a .place + 1) from (seen .0) (seen .1) over))

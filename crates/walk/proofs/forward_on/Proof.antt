@@ -14,7 +14,8 @@ use Rattle.walk.proofs.forward_on.Tie as tie
 
 abbrev Inv-loop : tie.InvT-loop
 Inv-loop row len next m sign lists syllable sets at₀ at =
-    walkFrom (judgeAt m (valueOf sign lists) syllable sets (glyphsOf row)) len next ≡ walkFrom (judgeAt m (valueOf sign lists) syllable sets (glyphsOf row)) len at
+    walkFrom (judgeAt m (valueOf sign lists) syllable sets (glyphsOf row)) len next
+    ≡ walkFrom (judgeAt m (valueOf sign lists) syllable sets (glyphsOf row)) len at
 
 abbrev μ-loop : tie.MeasureT-loop
 μ-loop row len next m sign lists syllable sets at₀ at = len - at
@@ -42,11 +43,14 @@ module _ (c : tie.After-judge Inv-loop μ-loop) where
   place = c .before .before .before .loop .at
 
   turn : (r : Verdict) → c .judge .result ≡ r
-      → walkFrom judge len (c .before .before .before .before .before .before .before .args .next) ≡ onVerdict r place (walkFrom judge len (place + 1))
+      → walkFrom judge len (c .before .before .before .before .before .before .before .args .next)
+      ≡ onVerdict r place (walkFrom judge len (place + 1))
   turn r e =
-      let a = c .before .before .before .before .before .before .before .args in
-      let told = c .judge .ensures ∙ ap (verdict (a .m) (valueOf (a .sign) (a .lists .now)) (a .syllable) (a .sets .now)) (c .before .read .ensures) in
-      c .before .before .before .loop .inv ∙ walk-on-by judge len place (omega arith) r (sym told ∙ e)
+      let at-loop = c .before .before .before in
+      let a = at-loop .before .before .before .before .args in
+      let told = c .judge .ensures ∙ ap (verdict (a .m) (valueOf (a .sign) (a .lists .now)) (a .syllable) (a .sets .now))
+      (c .before .read .ensures) in
+      at-loop .loop .inv ∙ walk-on-by judge len place (omega arith) r (sym told ∙ e)
 
 enum-told : tie.Need-enum-told Inv-loop μ-loop
 enum-told c = search needs

@@ -17,21 +17,23 @@ may-have-requires c κs = search needs
 
 returns-2 : tie.Need-returns-2
 returns-2 c =
-    let start = c .before .before .before .before .before .before .before in
+    let at-if1 = c .before .before in
+    let start = at-if1 .before .before .before .before .before in
     let a = start .args in
-    let g = c .before .before .before .before .read in
+    let g = at-if1 .before .before .read in
     let asked = c .before .may-have in
     let no = sym (asked .ensures) ∙ not-true (asked .result) (c .if2 .taken) in
     let out = not-admitted (a .d) (a .sets .now) (a .set) (g .result .id) (start .pre .1) no in
-    rw (← g .ensures, eq-eqb _ _ (c .before .before .if1 .left), out)
+    rw (← g .ensures, eq-eqb _ _ (at-if1 .if1 .left), out)
 
 in-set-requires : tie.Need-in-set-requires
 in-set-requires c κs = search needs
 
 returns-3 : tie.Need-returns-3
 returns-3 c =
-    let g = c .before .before .before .before .before .read in
-    rw (← g .ensures, eq-eqb _ _ (c .before .before .before .if1 .left), c .in-set .ensures)
+    let at-if1 = c .before .before .before in
+    let g = at-if1 .before .before .read in
+    rw (← g .ensures, eq-eqb _ _ (at-if1 .if1 .left), c .in-set .ensures)
 
 pub is-outside-spec : {M : Type 1} → statement M
 is-outside-spec =

@@ -54,9 +54,10 @@ past-outside-requires-2 c κs = search needs
 
 returns-3 : tie.Need-returns-3
 returns-3 c =
-    let tried = c .before .before .before .past-outside in
+    let at-past-outside = c .before .before .before in
+    let tried = at-past-outside .past-outside in
     let rest = c .past-outside2 in
-    let a = c .before .before .before .before .before .before .before .before .before .before .before .before .args in
+    let a = at-past-outside .before .before .before .before .before .before .before .before .before .args in
     let y = outsideAt (a .set) (a .sets .now) (glyphsOf (a .row .now)) in (
       omega (arith, tried .ensures .0, rest .ensures .0),
       crossed-join y (a .back) (a .len) (a .left) (tried .result) (rest .result) (tried .ensures .1) (rest .ensures .1),

@@ -40,8 +40,9 @@ loop-less c = search needs
 
 loop-again : tie.Need-loop-again Inv-loop μ-loop
 loop-again c =
-    let a = c .before .before .before .before .before .args in
-    let l = c .before .before .before .loop in (
+    let at-loop = c .before .before .before in
+    let a = at-loop .before .before .args in
+    let l = at-loop .loop in (
       omega arith,
       common-more (flippedAt (a .class) (glyphsOf (a .row .now))) (a .p) (a .p + l .k) (l .all) _ _
           (ap (λ (g : Glyph). bitXor (g .props) (a .class * 256)) (c .before .read .ensures)) (omega arith) (l .inv .1),

@@ -26,8 +26,11 @@ is-taken-requires : tie.Need-is-taken-requires
 is-taken-requires c κs = search needs
 
 returns : tie.Need-returns
-returns c = let e : c .before .before .before .alloc .result ≡ allocated (c .before .before .before .before .before .before .before .args .count) (c .before .before .before .before .before .before .before .args .size) (budgetOf (now (c .before .before .before .before .before .before .before .args .left))) =
-    c .before .before .before .alloc .ensures ∙ ap (allocated (c .before .before .before .before .before .before .before .args .count) (c .before .before .before .before .before .before .before .args .size)) (c .before .before .before .before .new .ensures) in (
+returns c =
+    let at-alloc = c .before .before .before in
+    let start = at-alloc .before .before .before .before in
+    let e : at-alloc .alloc .result ≡ allocated (start .args .count) (start .args .size) (budgetOf (now (start .args .left))) =
+    at-alloc .alloc .ensures ∙ ap (allocated (start .args .count) (start .args .size)) (at-alloc .before .new .ensures) in (
       c .is-taken .ensures ∙ ap (λ (r : Charged). wasTaken (r .charge)) e,
       ap (λ (r : Charged). budgetWords (r .left)) e,
     )

@@ -26,8 +26,11 @@ is-taken-requires : tie.Need-is-taken-requires
 is-taken-requires c κs = search needs
 
 returns : tie.Need-returns
-returns c = let e : c .before .before .before .work .result ≡ worked (c .before .before .before .before .before .before .before .args .visits) (budgetOf (now (c .before .before .before .before .before .before .before .args .left))) =
-    c .before .before .before .work .ensures ∙ ap (worked (c .before .before .before .before .before .before .before .args .visits)) (c .before .before .before .before .new .ensures) in (
+returns c =
+    let at-work = c .before .before .before in
+    let start = at-work .before .before .before .before in
+    let e : at-work .work .result ≡ worked (start .args .visits) (budgetOf (now (start .args .left))) =
+    at-work .work .ensures ∙ ap (worked (start .args .visits)) (at-work .before .new .ensures) in (
       c .is-taken .ensures ∙ ap (λ (r : Charged). wasTaken (r .charge)) e,
       ap (λ (r : Charged). budgetWords (r .left)) e,
     )

@@ -22,8 +22,10 @@ same-length-2 : tie.Need-same-length-2
 same-length-2 c = search needs
 
 returns : tie.Need-returns
-returns c = let r = c .before .before .before .before .before .run in
-    (r .result, (rw (c .before .before .before .before .before .before .before .match-from .ensures, c .before .before .before .before .before .before .given .ensures) at (r .ensures), c .told .ensures))
+returns c =
+    let at-run = c .before .before .before .before .before in
+    let r = at-run .run in
+    (r .result, (rw (at-run .before .before .match-from .ensures, at-run .before .given .ensures) at (r .ensures), c .told .ensures))
 
 pub cb-run-spec : {M : Type 1} → statement M
 cb-run-spec =

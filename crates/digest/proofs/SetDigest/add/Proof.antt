@@ -46,12 +46,15 @@ loop-less : tie.Need-loop-less Inv-loop μ-loop
 loop-less c = search needs
 
 loop-again : tie.Need-loop-again Inv-loop μ-loop
-loop-again c = let l = c .before .before .before .loop in let a = c .before .before .before .before .before .args in (
-  omega arith,
-  simp length-set (l .inv .1),
-  made-more (l .masks) (added (a .g) (λ j k. bit k (getD (a .self .masks) j 0))) (l .i) (c .with .result) (omega arith) (l .inv .2)
-      (λ k h. c .with .ensures k ∙ ap (λ (b : ℕ). bit k (getD (a .self .masks) (l .i) 0) || eqb k (b % 64)) (c .before .shifted .ensures)),
-)
+loop-again c =
+    let at-loop = c .before .before .before in
+    let l = at-loop .loop in
+    let a = at-loop .before .before .args in (
+      omega arith,
+      simp length-set (l .inv .1),
+      made-more (l .masks) (added (a .g) (λ j k. bit k (getD (a .self .masks) j 0))) (l .i) (c .with .result) (omega arith) (l .inv .2)
+          (λ k h. c .with .ensures k ∙ ap (λ (b : ℕ). bit k (getD (a .self .masks) (l .i) 0) || eqb k (b % 64)) (c .before .shifted .ensures)),
+    )
 
 returns : tie.Need-returns Inv-loop μ-loop
 returns c = λ i k h l. c .before .loop .inv .2 i k (omega arith) l

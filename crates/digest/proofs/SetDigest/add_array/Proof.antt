@@ -35,8 +35,10 @@ loop-less : tie.Need-loop-less Inv-loop μ-loop
 loop-less c = search needs
 
 loop-again : tie.Need-loop-again Inv-loop μ-loop
-loop-again c = let l = c .before .before .before .loop in
-    let gs = c .before .before .before .before .before .args .array .now in (
+loop-again c =
+    let at-loop = c .before .before .before in
+    let l = at-loop .loop in
+    let gs = at-loop .before .before .args .array .now in (
       omega arith,
       λ i k h m.
           addedAll-same (drop (l .i + 1) gs) (bitsOf (c .add .result)) (added (getD gs (l .i) 0) (bitsOf (l .digest))) (c .add .ensures) i k h m
@@ -46,7 +48,8 @@ loop-again c = let l = c .before .before .before .loop in
 
 returns : tie.Need-returns Inv-loop μ-loop
 returns c = λ i k h m. let l = c .before .loop in
-    ap (λ (f : Bits). f i k) (sym (addedAll-end (c .before .before .before .args .array .now) (l .i) (bitsOf (l .digest)) (omega arith))) ∙ l .inv .1 i k h m
+    ap (λ (f : Bits). f i k) (sym (addedAll-end (c .before .before .before .args .array .now) (l .i) (bitsOf (l .digest)) (omega arith)))
+    ∙ l .inv .1 i k h m
 
 pub add-array-spec : {M : Type 1} → statement M
 add-array-spec =

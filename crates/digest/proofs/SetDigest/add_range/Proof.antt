@@ -16,7 +16,8 @@ kept : (a b : Bool) → a ≡ true → a ≡ (a || b)
 kept a b e = rw e
 
 abbrev Inv-loop : tie.InvT-loop
-Inv-loop a b old masks₀ yes₀ i₀ masks yes' i = (i ≤ 3) × (length masks ≡ 3) × (yes' ≡ not (every i (λ j. wide j a b))) × Made i masks (ranged a b (λ j k. bit k (getD old j 0)))
+Inv-loop a b old masks₀ yes₀ i₀ masks yes' i = (i ≤ 3) × (length masks ≡ 3) × (yes' ≡ not (every i (λ j. wide j a b)))
+    × Made i masks (ranged a b (λ j k. bit k (getD old j 0)))
 
 abbrev μ-loop : tie.MeasureT-loop
 μ-loop a b old masks₀ yes₀ i₀ masks yes' i = 3 - i
@@ -62,19 +63,25 @@ loop-less c = search needs
 
 loop-again : tie.Need-loop-again Inv-loop μ-loop
 unfolding ranged
-loop-again c = let l = c .before .before .before .loop in let d = c .before .before .before .before .before .before .before .args in (
-  omega arith,
-  simp length-set (l .inv .1),
-  noted-more (λ j. wide j (d .a) (d .b)) (l .i) (l .yes) (c .is-wide .result) (l .inv .2) (c .is-wide .ensures),
-  made-more (l .masks) (ranged (d .a) (d .b) (λ j k. bit k (getD (d .self .masks) j 0))) (l .i) _ (omega arith) (l .inv .3)
-      (λ k h.
-      or-bit k (getD (d .self .masks) (l .i) 0) (c .before .range-of .result)
-      ∙ ap (λ (t : Bool). bit k (getD (d .self .masks) (l .i) 0) || t) (c .before .range-of .ensures k h)),
-)
+loop-again c =
+    let at-loop = c .before .before .before in
+    let l = at-loop .loop in
+    let d = at-loop .before .before .before .before .args in (
+      omega arith,
+      simp length-set (l .inv .1),
+      noted-more (λ j. wide j (d .a) (d .b)) (l .i) (l .yes) (c .is-wide .result) (l .inv .2) (c .is-wide .ensures),
+      made-more (l .masks) (ranged (d .a) (d .b) (λ j k. bit k (getD (d .self .masks) j 0))) (l .i) _ (omega arith) (l .inv .3)
+          (λ k h.
+          or-bit k (getD (d .self .masks) (l .i) 0) (c .before .range-of .result)
+          ∙ ap (λ (t : Bool). bit k (getD (d .self .masks) (l .i) 0) || t) (c .before .range-of .ensures k h)),
+    )
 
 returns-2 : tie.Need-returns-2 Inv-loop μ-loop
-returns-2 c = let d = c .before .before .before .before .before .args in let l = c .before .loop in
-    let e : everyBit (bitsOf (d .self)) ≡ false = sym (c .before .before .before .before .is-full .ensures) ∙ c .before .before .before .if1 .left in
+returns-2 c =
+    let at-if1 = c .before .before .before in
+    let d = at-if1 .before .before .args in
+    let l = c .before .loop in
+    let e : everyBit (bitsOf (d .self)) ≡ false = sym (at-if1 .before .is-full .ensures) ∙ at-if1 .if1 .left in
     let three : l .i ≡ 3 = omega arith in (
       λ i k h m. l .inv .3 i k (omega arith) m,
       l .inv .2 ∙ rw (e, three),

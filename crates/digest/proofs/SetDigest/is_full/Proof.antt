@@ -32,8 +32,12 @@ is-full-requires : tie.Need-is-full-requires Inv-loop μ-loop
 is-full-requires c κs = search needs
 
 returns : tie.Need-returns Inv-loop μ-loop
-returns c = let l = c .before .before .before .loop in let a = c .before .before .before .before .before .args in
-    sym (every-not (λ j. every 64 (λ k. bit k (getD (a .self .masks) j 0))) 3 (l .i) (omega arith) (sym (c .before .is-full .ensures) ∙ not-true (c .before .is-full .result) (c .if1 .taken)))
+returns c =
+    let at-loop = c .before .before .before in
+    let l = at-loop .loop in
+    let a = at-loop .before .before .args in
+    sym (every-not (λ j. every 64 (λ k. bit k (getD (a .self .masks) j 0))) 3 (l .i) (omega arith)
+    (sym (c .before .is-full .ensures) ∙ not-true (c .before .is-full .result) (c .if1 .taken)))
 
 add-i : tie.Need-add-i Inv-loop μ-loop
 add-i c = search needs
@@ -42,8 +46,14 @@ loop-less : tie.Need-loop-less Inv-loop μ-loop
 loop-less c = search needs
 
 loop-again : tie.Need-loop-again Inv-loop μ-loop
-loop-again c = let l = c .before .before .before .loop in let a = c .before .before .before .before .before .args in
-    (omega arith, every-more (λ j. every 64 (λ k. bit k (getD (a .self .masks) j 0))) (l .i) (c .before .is-full .result) (l .inv .1) (c .before .is-full .ensures) (c .if1 .left))
+loop-again c =
+    let at-loop = c .before .before .before in
+    let l = at-loop .loop in
+    let a = at-loop .before .before .args in (
+      omega arith,
+      every-more (λ j. every 64 (λ k. bit k (getD (a .self .masks) j 0))) (l .i) (c .before .is-full .result) (l .inv .1)
+          (c .before .is-full .ensures) (c .if1 .left),
+    )
 
 returns-2 : tie.Need-returns-2 Inv-loop μ-loop
 returns-2 c = every-done _ (c .before .loop .i) 3 (omega arith) (c .before .loop .inv .1)

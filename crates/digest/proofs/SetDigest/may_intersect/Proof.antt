@@ -38,8 +38,12 @@ meet-requires : tie.Need-meet-requires Inv-loop μ-loop
 meet-requires c κs = search needs
 
 returns : tie.Need-returns Inv-loop μ-loop
-returns c = let l = c .before .before .before .loop in let a = c .before .before .before .before .before .before .args in
-    sym (every-not (λ j. some 64 (λ k. bit k (getD (a .self .masks) j 0) && bit k (getD (a .other .masks) j 0))) 3 (l .i) (omega arith) (sym (c .before .meet .ensures) ∙ not-true (c .before .meet .result) (c .if1 .taken)))
+returns c =
+    let at-loop = c .before .before .before in
+    let l = at-loop .loop in
+    let a = at-loop .before .before .before .args in
+    sym (every-not (λ j. some 64 (λ k. bit k (getD (a .self .masks) j 0) && bit k (getD (a .other .masks) j 0))) 3 (l .i) (omega arith)
+    (sym (c .before .meet .ensures) ∙ not-true (c .before .meet .result) (c .if1 .taken)))
 
 add-i : tie.Need-add-i Inv-loop μ-loop
 add-i c = search needs
@@ -48,8 +52,14 @@ loop-less : tie.Need-loop-less Inv-loop μ-loop
 loop-less c = search needs
 
 loop-again : tie.Need-loop-again Inv-loop μ-loop
-loop-again c = let l = c .before .before .before .loop in let a = c .before .before .before .before .before .before .args in
-    (omega arith, every-more (λ j. some 64 (λ k. bit k (getD (a .self .masks) j 0) && bit k (getD (a .other .masks) j 0))) (l .i) (c .before .meet .result) (l .inv .1) (c .before .meet .ensures) (c .if1 .left))
+loop-again c =
+    let at-loop = c .before .before .before in
+    let l = at-loop .loop in
+    let a = at-loop .before .before .before .args in (
+      omega arith,
+      every-more (λ j. some 64 (λ k. bit k (getD (a .self .masks) j 0) && bit k (getD (a .other .masks) j 0))) (l .i)
+          (c .before .meet .result) (l .inv .1) (c .before .meet .ensures) (c .if1 .left),
+    )
 
 returns-2 : tie.Need-returns-2 Inv-loop μ-loop
 returns-2 c = every-done _ (c .before .loop .i) 3 (omega arith) (c .before .loop .inv .1)
