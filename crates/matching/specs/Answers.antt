@@ -1,6 +1,6 @@
 -- The answers that an outcome gives, and this paper's number and values for each case of each answer (01, "When the desk says no").
 use Prim.Native.Nat.{ℕ, _+_, _-_}
-use mathlib.Core.Bool.{Bool, true, false, cond}
+use mathlib.Core.Bool.{cond}
 use lib.Dec.{eqb}
 use mathlib.Core.List.{List, [], _∷_, _++_}
 use lib.ListN.{length, getD, take, replicate}
@@ -77,33 +77,9 @@ contextReply (ContextMatch.Matched place) = replies 0 (place ∷ [])
 contextReply (ContextMatch.Refused why) = replies (refusalNumber why) []
 contextReply (ContextMatch.Lost extent) = replies 4 (extent ∷ [])
 
--- ---- the code's side: answers by their cases, and how they are put together
-
-abbrev pub isMatched : InputAnswer → Bool
-isMatched (InputAnswer.Matched end total) = true
-isMatched (InputAnswer.Refused why) = false
-isMatched (InputAnswer.Lost extent) = false
-isMatched InputAnswer.Ligature = false
-
 -- the end of a match, else 0
 abbrev pub matchEnd : InputAnswer → ℕ
 matchEnd (InputAnswer.Matched end total) = end
 matchEnd (InputAnswer.Refused why) = 0
 matchEnd (InputAnswer.Lost extent) = 0
 matchEnd InputAnswer.Ligature = 0
-
-abbrev pub isFound : ContextMatch → Bool
-isFound (ContextMatch.Matched place) = true
-isFound (ContextMatch.Refused why) = false
-isFound (ContextMatch.Lost extent) = false
-
--- how many positions an answer has: the cursor and one for each value
-abbrev pub countOf : InputAnswer → ℕ → ℕ
-countOf (InputAnswer.Matched end total) n = n + 1
-countOf (InputAnswer.Refused why) n = 0
-countOf (InputAnswer.Lost extent) n = 0
-countOf InputAnswer.Ligature n = 0
-
--- an answer to n values, beside the slots
-abbrev pub madeOf : InputAnswer → ℕ → List ℕ → InputMatch
-madeOf answer n positions = record { answer = answer; count = countOf answer n; positions = positions }

@@ -1,6 +1,8 @@
 pub mod Take
 pub mod Matchers
+pub mod Ready
 pub mod Answers
+pub mod Cases
 pub mod Going
 pub mod Onward
 pub mod Demand2

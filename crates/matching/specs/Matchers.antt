@@ -1,12 +1,11 @@
 -- The three matchers over a text of glyphs: what stands before it, the glyphs that come, and the cursor among them
 -- (01, "A glyph in four words" and port order 5). Each is `takes` with its judge, its rule and its way.
-use Prim.Native.Nat.{ℕ, _+_, _≤_, _<_}
+use Prim.Native.Nat.{ℕ, _+_}
 use mathlib.Core.List.{List, []}
-use mathlib.Core.Bool.{Bool, true, false, cond}
-use lib.Dec.{ltb}
-use lib.ListN.{length, getD, take}
+use mathlib.Core.Bool.{Bool, true, false}
+use lib.ListN.{length, getD}
 use Rattle.glyph.specs.declared.Glyph.{Glyph}
-use Rattle.glyph.specs.Glyph.{limit, blank}
+use Rattle.glyph.specs.Glyph.{blank}
 use Rattle.verdict.specs.declared.Matcher.{Matcher}
 use Rattle.verdict.specs.declared.Table.{Table}
 use Rattle.verdict.specs.declared.Table.the-variants.{Gsub, Gpos}
@@ -15,7 +14,7 @@ use Rattle.verdict.specs.Matcher.{matcherOf}
 use Rattle.verdict.specs.Verdict.{Asked, judgeAt}
 use Rattle.matching.specs.declared.Terms.{Terms}
 use Rattle.ligature.specs.Ligature.{mayJoin, baseSkips}
-use Rattle.matching.specs.Take.{slots, Outcome, ahead, behind, takes}
+use Rattle.matching.specs.Take.{Outcome, ahead, behind, takes}
 
 -- the verdict on a value and a place; values are of any kind, and the test says what each asks of a glyph
 abbrev pub judge : {X : Type 0} → Matcher → List ℕ → (X → Asked) → ℕ → List Glyph → X → ℕ → Verdict
@@ -69,15 +68,3 @@ backOn lookup sets test row syllable values =
 abbrev pub backwardGlyphs : Table → List Glyph → List Glyph → List Glyph
 backwardGlyphs Gsub done before = done
 backwardGlyphs Gpos done before = before
-
--- ---- the code's side: what input matching is handed once a call isn't refused; the backward row of any d and idx
-
-abbrev pub InputReady : List Glyph → ℕ → List ℕ → Type 0
-InputReady coming idx values = (idx < length coming) × (length coming ≤ limit) × (length values < slots)
-
--- the first k glyphs; none where there are fewer
-abbrev pub firstOrNone : ℕ → List Glyph → List Glyph
-firstOrNone k gs = cond (ltb (length gs) k) [] (take k gs)
-
-abbrev pub backwardRow : Table → List Glyph → ℕ → List Glyph → ℕ → List Glyph
-backwardRow table done d coming idx = backwardGlyphs table (firstOrNone d done) (firstOrNone idx coming)

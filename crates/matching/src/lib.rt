@@ -13,8 +13,10 @@ ghost use lib.ListN.{length};
 ghost use Rattle.glyph.specs.Glyph.{glyphsOf};
 ghost use Rattle.verdict.specs.Verdict.{valueBy};
 ghost use Rattle.matching.specs.Take.{slots};
-ghost use Rattle.matching.specs.Matchers.{InputReady, inputBy, inputOn, searchedGlyphs};
-ghost use Rattle.matching.specs.Answers.{slotted, countOf, madeOf, inputTold, refusalNumber, answerFrom};
+ghost use Rattle.matching.specs.Matchers.{inputBy, inputOn, searchedGlyphs};
+ghost use Rattle.matching.specs.Ready.{InputReady};
+ghost use Rattle.matching.specs.Answers.{slotted, inputTold, refusalNumber, answerFrom};
+ghost use Rattle.matching.specs.Cases.{countOf, madeOf};
 
 // Positions of a match, at most.
 pub const MAX_CONTEXT_LENGTH: usize = 64;

@@ -13,7 +13,8 @@ ghost use lib.ListN.{length};
 ghost use Rattle.glyph.specs.Glyph.{glyphsOf};
 ghost use Rattle.verdict.specs.Verdict.{valueBy};
 ghost use Rattle.matching.specs.Take.{ahead, behind};
-ghost use Rattle.matching.specs.Matchers.{aheadOn, backOn, firstOrNone, backwardRow};
+ghost use Rattle.matching.specs.Matchers.{aheadOn, backOn};
+ghost use Rattle.matching.specs.Ready.{firstOrNone, backwardRow};
 ghost use Rattle.matching.specs.Answers.{contextTold};
 
 // Lookahead: the walk is handed the glyphs from the start on; what it answers is counted in the whole text.

@@ -19,7 +19,8 @@ use Rattle.matching.specs.Take.{slots, ahead, behind, takes, reached}
 use Rattle.matching.specs.Shift.{raisedAll}
 use Rattle.matching.specs.Matchers.{inputOn, aheadOn, backOn}
 use Rattle.matching.specs.Kinds.{input-map, ahead-map, back-map}
-use Rattle.matching.specs.Answers.{slotted, inputTold, contextTold, isMatched, matchEnd, isFound}
+use Rattle.matching.specs.Answers.{slotted, inputTold, contextTold, matchEnd}
+use Rattle.matching.specs.Cases.{isMatched, isFound}
 use Rattle.book.specs.declared.Part.{Part}
 use Rattle.book.specs.declared.ChainParts.{ChainParts}
 use Rattle.book.specs.declared.Entry.{Entry}

@@ -18,7 +18,8 @@ use Rattle.matching.specs.declared.Terms.{Terms}
 use Rattle.matching.specs.declared.InputMatch.{InputMatch}
 use Rattle.matching.specs.Take.{Way, ahead, Outcome, taken, lost, unlike, reached}
 use Rattle.matching.specs.Matchers.{inputOn, inputBy, aheadOn, backOn}
-use Rattle.matching.specs.Answers.{slotted, matchedAt, inputTold, contextTold, isMatched, matchEnd, isFound}
+use Rattle.matching.specs.Answers.{slotted, matchedAt, inputTold, contextTold, matchEnd}
+use Rattle.matching.specs.Cases.{isMatched, isFound}
 use Rattle.matching.specs.Demand2Laws.{demand-2}
 use Rattle.matching.specs.Rising.{as-many, end-inside}
 use Rattle.matching.specs.Shift.{raisedAll, raisedBy, reached-shift, input-shift, ahead-shift}

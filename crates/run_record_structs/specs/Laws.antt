@@ -21,7 +21,8 @@ use Rattle.run_calls.specs.declared.Checked.{Checked}
 use Rattle.run_calls.specs.Calls.{Handed, badRecords, checkedFirst, checkedAll, SaidBy, Said}
 use Rattle.run_record_structs.specs.declared.Record.{Record}
 use Rattle.run_record_structs.specs.declared.Pairs.{Pairs}
-use Rattle.run_record_structs.specs.Records.{recordWords, recordMeant, mostPairs, pairsKept, noRecord, noPairs, withPair, Filled}
+use Rattle.run_record_structs.specs.Records.{recordWords, recordMeant}
+use Rattle.run_record_structs.specs.Array.{mostPairs, pairsKept, noRecord, noPairs, withPair, Filled}
 
 -- ---- structs and words
 

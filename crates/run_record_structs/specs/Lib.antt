@@ -1,4 +1,5 @@
 pub mod Records
+pub mod Array
 pub mod Laws
 pub mod AsWords
 pub mod Demands

@@ -6,7 +6,8 @@ ghost use mathlib.Core.Path.{_≡_};
 ghost use Prim.Native.Nat.{_*_, _<_, _≤_};
 ghost use lib.ListN.{length, getD, take};
 ghost use Rattle.run_calls.specs.Calls.{Said};
-ghost use Rattle.run_record_structs.specs.Records.{recordWords, mostPairs, pairsKept, noRecord, noPairs, withPair, Filled};
+ghost use Rattle.run_record_structs.specs.Records.{recordWords};
+ghost use Rattle.run_record_structs.specs.Array.{mostPairs, pairsKept, noRecord, noPairs, withPair, Filled};
 
 // Which position of the match, and which lookup of the book.
 pub struct Record {

@@ -11,7 +11,8 @@ use Rattle.verdict.specs.declared.MaySkip.{MaySkip}
 use Rattle.verdict.specs.declared.MayMatch.{MayMatch}
 use Rattle.verdict.specs.declared.Verdict.{Verdict}
 use Rattle.verdict.specs.declared.Verdict.the-variants.{Match, NotMatch, Skip}
-use Rattle.verdict.specs.Verdict.{Asked, skipYes, skipOf, verdict, verdictOf, restOf, judgeAt}
+use Rattle.verdict.specs.Verdict.{Asked, skipYes, skipOf, verdict, verdictOf, judgeAt}
+use Rattle.verdict.specs.Rest.{restOf}
 
 module _ (m : Matcher) (asked : Asked) (syllable : ℕ) (sets : List ℕ) (g : Glyph) where
   pub verdict-yes : skipYes m sets g ≡ true → verdict m asked syllable sets g ≡ Skip

@@ -1,4 +1,5 @@
 pub mod Matcher
 pub mod Verdict
+pub mod Rest
 pub mod Laws
 pub mod Numbers

@@ -122,9 +122,3 @@ verdict m asked syllable sets g = verdictOf (skipOf m sets g) (matchOf m asked s
 -- the judge of the places of a list of glyphs
 abbrev pub judgeAt : Matcher → Asked → ℕ → List ℕ → List Glyph → ℕ → Verdict
 judgeAt m asked syllable sets gs i = verdict m asked syllable sets (getD gs i blank)
-
--- ---- the code's side
-
--- the verdict on a glyph that isn't skip Yes
-unfoldable pub restOf : Matcher → Asked → ℕ → Glyph → Verdict
-restOf m asked syllable g = verdictOf (cond (ignorable m g) MaySkip.Maybe MaySkip.No) (matchOf m asked syllable g)

@@ -9,7 +9,8 @@ ghost use mathlib.Core.Path.{_≡_};
 ghost use mathlib.Core.Bool.{cond};
 ghost use Rattle.verdict.specs.declared.Verdict.{Verdict};
 ghost use Rattle.verdict.specs.declared.MaySkip.{MaySkip};
-ghost use Rattle.verdict.specs.Verdict.{ruledOut, yesIf, isYes, valueOf, matchOf, verdict, verdictOf, restOf};
+ghost use Rattle.verdict.specs.Verdict.{ruledOut, yesIf, isYes, valueOf, matchOf, verdict, verdictOf};
+ghost use Rattle.verdict.specs.Rest.{restOf};
 
 // The mask or the syllable rules the glyph out.
 fn is_ruled_out(m: Matcher, syllable: u8, g: Glyph) -> bool

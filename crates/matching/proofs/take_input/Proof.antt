@@ -25,7 +25,8 @@ use Rattle.matching.specs.Take.{ahead, Outcome, unlike, lost, having, on
 use Rattle.ligature.specs.Ligature.{mayJoin, baseSkips}
 use Rattle.ligature.specs.Laws.{Known, looked-known, looked-serves}
 use Rattle.matching.specs.Matchers.{judge, joins, inputBy}
-use Rattle.matching.specs.Answers.{slotted, madeOf, inputTold}
+use Rattle.matching.specs.Answers.{slotted, inputTold}
+use Rattle.matching.specs.Cases.{madeOf}
 use Rattle.matching.specs.Going.{Going, going-none, going-more, going-skip, going-done, turn, walks}
 use Rattle.matching.proofs.take_input.Statement.{statement}
 use Rattle.matching.proofs.take_input.Tie as tie

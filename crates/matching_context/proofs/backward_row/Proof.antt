@@ -52,7 +52,8 @@ use Rattle.verdict.specs.declared.Table.{Table}
 use Rattle.verdict.specs.declared.Table.the-variants.{Gsub, Gpos}
 use Rattle.verdict.proofs.Table as T
 use Rattle.verdict.proofs.Table.Laws as T′
-use Rattle.matching.specs.Matchers.{firstOrNone, backwardGlyphs, backwardRow}
+use Rattle.matching.specs.Matchers.{backwardGlyphs}
+use Rattle.matching.specs.Ready.{firstOrNone, backwardRow}
 use Rattle.matching_context.proofs.first_or_none as part
 use Rattle.matching_context.proofs.first_or_none.Symbol as part-def
 use Rattle.matching_context.proofs.first_or_none.Symbol.{name as #matching-context·first-or-none}

@@ -1,6 +1,6 @@
 -- The test is the definition's. Assumes nothing.
 use borrow.Author.Tests.{le-leb, lt-leb}
-use Rattle.run_record_structs.specs.Records.{pairsKept}
+use Rattle.run_record_structs.specs.Array.{pairsKept}
 use Rattle.run_record_structs.proofs.at_most.Statement.{statement}
 use Rattle.run_record_structs.proofs.at_most.Tie as tie
 

@@ -47,7 +47,7 @@ use denote.Triple.Table.{entered, cited}
 use denote.Triple.Walked.{says, Stays, stay-none-slice, walkOf, goes-none-slice, Walks, ends-at, walked, walk-meets}
 use denote.Exit.{yes}
 use denote.Triple.Clauses.{ensured, lasts}
-use Rattle.run_record_structs.specs.Records.{mostPairs, pairsKept, noRecord, noPairs, withPair, Filled}
+use Rattle.run_record_structs.specs.Array.{mostPairs, pairsKept, noRecord, noPairs, withPair, Filled}
 use Rattle.run_record_structs.specs.Laws.{filled-none, filled-room, filled-more, kept-few}
 use Rattle.run_record_structs.specs.declared.Record.{Record}
 use Rattle.run_record_structs.specs.declared.Pairs.{Pairs}

@@ -37,7 +37,7 @@ use denote.Triple.Spec.{Meets, tripleOf}
 use denote.Triple.Table.{entered}
 use denote.Triple.Walked.{says, needs, Stays, stay-none, stay-none-slice, walkOf, goes-none, goes-none-slice, Walks, ends-at, walked, walk-meets}
 use denote.Exit.{yes}
-use Rattle.run_record_structs.specs.Records.{noRecord}
+use Rattle.run_record_structs.specs.Array.{noRecord}
 use Rattle.run_record_structs.specs.declared.Record.{Record}
 use Rattle.run_record_structs.proofs.Record as T
 use Rattle.run_record_structs.proofs.Record.Laws as T′

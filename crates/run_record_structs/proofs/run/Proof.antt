@@ -47,7 +47,8 @@ use Rattle.run.proofs.Given.Laws as G′
 use Rattle.run_calls.specs.declared.RunAnswer.{RunAnswer}
 use Rattle.run_calls.proofs.RunAnswer as R
 use Rattle.run_calls.proofs.RunAnswer.Laws as R′
-use Rattle.run_record_structs.specs.Records.{recordWords, mostPairs, pairsKept, Filled}
+use Rattle.run_record_structs.specs.Records.{recordWords}
+use Rattle.run_record_structs.specs.Array.{mostPairs, pairsKept, Filled}
 use Rattle.run_record_structs.specs.Laws.{filled-fits, SaidOf, said-filled}
 use Rattle.run_record_structs.specs.declared.Record.{Record}
 use Rattle.run_record_structs.specs.declared.Pairs.{Pairs}

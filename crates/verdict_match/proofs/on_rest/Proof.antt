@@ -1,5 +1,5 @@
 -- The two answers are weighed, as in the definition. Assumes nothing.
-use Rattle.verdict.specs.Verdict.{restOf}
+use Rattle.verdict.specs.Rest.{restOf}
 use borrow.Author.Needs.{needs}
 use Rattle.verdict_match.proofs.on_rest.Statement.{statement}
 use Rattle.verdict_match.proofs.on_rest.Tie as tie

@@ -11,7 +11,8 @@ use lib.ListN.{getD}
 use Rattle.glyph.specs.Glyph.{glyphsOf, blank}
 use Rattle.verdict.specs.declared.Verdict.{Verdict}
 use Rattle.verdict.specs.declared.Verdict.the-variants.{Skip}
-use Rattle.verdict.specs.Verdict.{valueOf, skipYes, restOf, judgeAt}
+use Rattle.verdict.specs.Verdict.{valueOf, skipYes, judgeAt}
+use Rattle.verdict.specs.Rest.{restOf}
 use Rattle.verdict.specs.Laws.{judged-yes, judged-rest}
 use Rattle.walk.specs.declared.Walked.the-variants.{Stopped, RanOut}
 use Rattle.walk.specs.Walk.{onVerdictBack, walkBack}
