@@ -1,6 +1,6 @@
 -- Of charges made one after another, whatever they are: what was taken plus what remains is what was opened, in each counter, and a charge that is
--- Exhausted changes nothing. By induction on the charges, with the law of one charge (Laws). That the bytes are at most `most` holds of every allowance: a
--- counter has 64 bits.
+-- Exhausted changes nothing. By induction on the charges, with the law of one charge (Laws). That the bytes are at most `most` holds of every
+-- allowance: a counter has 64 bits.
 use mathlib.Core.Bool.{Bool, true, false, true≢false}
 use mathlib.Core.List.{List, [], _∷_, _++_}
 use mathlib.Core.Path.{_≡_, ap, _∙_}
@@ -22,12 +22,14 @@ Keeps Exhausted a b left = left ≡ b
 same-budget : (b c : Budget) → b .work ≡ c .work → b .bytes ≡ c .bytes → b ≡ c
 same-budget b c e f = λ i. record { work = e i; bytes = f i }
 
-of-visits : (answer : Charge) (n : ℕ) (b left : Budget) → Balances answer n (b .work) (left .work) (b .bytes) (left .bytes) → Keeps answer (Visits n) b left
+of-visits : (answer : Charge) (n : ℕ) (b left : Budget) → Balances answer n (b .work) (left .work) (b .bytes) (left .bytes)
+    → Keeps answer (Visits n) b left
 unfolding workAsked bytesAsked
 of-visits Taken n b left k = (k .0, omega (arith, k .1))
 of-visits Exhausted n b left k = same-budget left b (k .1) (k .2)
 
-of-things : (answer : Charge) (n s : ℕ) (b left : Budget) → Balances answer (n * s) (b .bytes) (left .bytes) (b .work) (left .work) → Keeps answer (Things n s) b left
+of-things : (answer : Charge) (n s : ℕ) (b left : Budget) → Balances answer (n * s) (b .bytes) (left .bytes) (b .work) (left .work)
+    → Keeps answer (Things n s) b left
 unfolding workAsked bytesAsked
 of-things Taken n s b left k = (omega (arith, k .1), k .0)
 of-things Exhausted n s b left k = same-budget left b (k .2) (k .1)
@@ -64,7 +66,8 @@ adds-up (a ∷ more) b h =
     (one-keeps a b h) (adds-up more (chargedFor a b .left) (left-within a b h))
 
 -- from the opening of a table of any size
-pub opening-adds-up : (table : ℕ) (charges : List Charging) → let b = budgetWith (opening table) (opening table) in ChargesAddUp charges (answersTo charges b) b (leftAfter charges b)
+pub opening-adds-up : (table : ℕ) (charges : List Charging) → let b = budgetWith (opening table) (opening table) in
+    ChargesAddUp charges (answersTo charges b) b (leftAfter charges b)
 opening-adds-up table charges = adds-up charges (budgetWith (opening table) (opening table)) (omega arith)
 
 -- ---- Exhausted changes nothing
@@ -77,7 +80,8 @@ pub exhausted-same : (a : Charging) (b : Budget) → b .bytes ≤ most → charg
 exhausted-same a b h e = by-exhausted (chargedFor a b .charge) a b (chargedFor a b .left) (one-keeps a b h) e
 
 -- wherever it stands among others: without it the others leave the same
-pub exhausted-left-out : (before after : List Charging) (a : Charging) (b : Budget) → b .bytes ≤ most → chargedFor a (leftAfter before b) .charge ≡ Exhausted
+pub exhausted-left-out : (before after : List Charging) (a : Charging) (b : Budget) → b .bytes ≤ most
+    → chargedFor a (leftAfter before b) .charge ≡ Exhausted
     → leftAfter (before ++ a ∷ after) b ≡ leftAfter (before ++ after) b
 unfolding leftAfter
 exhausted-left-out [] after a b h e = ap (leftAfter after) (exhausted-same a b h e)

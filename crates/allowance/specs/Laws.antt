@@ -1,4 +1,5 @@
--- Of each charge (01, port order 2): what was taken plus what remains is what was there before it, Exhausted takes nothing, and taking 0 always succeeds.
+-- Of each charge (01, port order 2): what was taken plus what remains is what was there before it, Exhausted takes nothing, and taking 0 always
+-- succeeds.
 use mathlib.Core.Bool.{Bool, true, false, cond}
 use mathlib.Core.Path.{_≡_, refl}
 use Prim.Native.Nat.{ℕ, _+_, _-_, _*_, _≤_, _<_}
@@ -55,7 +56,8 @@ Balances Taken n from to other other′ = (n + to ≡ from) × (other′ ≡ oth
 Balances Exhausted n from to other other′ = (from < n) × (to ≡ from) × (other′ ≡ other)
 
 module _ (b : Budget) where
-  worked-by : (n : ℕ) (t : Bool) → leb n (b .work) ≡ t → let r = worked n b in Balances (r .charge) n (b .work) (r .left .work) (b .bytes) (r .left .bytes)
+  worked-by : (n : ℕ) (t : Bool) → leb n (b .work) ≡ t → let r = worked n b in
+      Balances (r .charge) n (b .work) (r .left .work) (b .bytes) (r .left .bytes)
   unfolding worked
   worked-by n true e = let h = leb-true n (b .work) e in rw e (omega arith, refl)
   worked-by n false e = rw e (leb-false n (b .work) e, refl, refl)
@@ -70,5 +72,6 @@ module _ (b : Budget) where
   allocated-by n s false true l e f = let h = leb-true (n * s) (b .bytes) f in rw (e, f) (omega arith, refl)
   allocated-by n s false false l e f = rw (e, f) (leb-false (n * s) (b .bytes) f, refl, refl)
 
-  pub allocated-kept : (n s : ℕ) → b .bytes ≤ most → let r = allocated n s b in Balances (r .charge) (n * s) (b .bytes) (r .left .bytes) (b .work) (r .left .work)
+  pub allocated-kept : (n s : ℕ) → b .bytes ≤ most → let r = allocated n s b in
+      Balances (r .charge) (n * s) (b .bytes) (r .left .bytes) (b .work) (r .left .work)
   allocated-kept n s l = allocated-by n s (ltb most (n * s)) (leb (n * s) (b .bytes)) l refl refl

@@ -1,4 +1,5 @@
--- A body that the code finds part by part is the body that the definition reads: each part is what the definition takes, and the next begins where it ends.
+-- A body that the code finds part by part is the body that the definition reads: each part is what the definition takes, and the next begins where it
+-- ends.
 use mathlib.Core.Path.{_≡_, refl, sym, ap, _∙_}
 use mathlib.Core.Bool.{Bool, true, false, cond}
 use mathlib.Core.List.{List, [], _∷_}
@@ -14,7 +15,8 @@ use Rattle.book.specs.declared.Part.{Part}
 use Rattle.book.specs.declared.Counted.{Counted}
 use Rattle.book.specs.declared.ChainParts.{ChainParts}
 use Rattle.book.specs.declared.Entry.{Entry}
-use Rattle.book.specs.Book.{mostIds, mostInput, mostSide, mostRecords, Lookup, Kind1, Kind2, Kind3, recordsOf, Found, Is, None, Split, Taken, Short, counted, andThen, wholeLookup, kind1, kind2, kind3, bodyOf}
+use Rattle.book.specs.Book.{mostIds, mostInput, mostSide, mostRecords, Lookup, Kind1, Kind2, Kind3, recordsOf, Found, Is}
+use Rattle.book.specs.Book.{None, Split, Taken, Short, counted, andThen, wholeLookup, kind1, kind2, kind3, bodyOf}
 use Rattle.book.specs.Places.{partOf, chainOf, meant, countedAt, partThen, wholeAt, oneAt, manyAt, chainAt, kindAt}
 
 -- ---- entries after their number
@@ -58,7 +60,8 @@ module _ (w : List ℕ) (f : List ℕ → List ℕ → Found) (g : Part → Entr
   then-at : (x each most : ℕ) → andThen (counted each most (drop x w)) f ≡ meant w (partThen (countedAt w x each most) g)
   then-at x each most = ap (λ (s : Split). andThen s f) (counted-at w x each most) ∙ then-by (countedAt w x each most)
 
-whole-by : (w : List ℕ) (x : ℕ) (e : Entry) (l : Lookup) (t : Bool) → leb (length w) x ≡ t → Is l ≡ meant w e → wholeLookup (drop x w) l ≡ meant w (wholeAt w x e)
+whole-by : (w : List ℕ) (x : ℕ) (e : Entry) (l : Lookup) (t : Bool) → leb (length w) x ≡ t → Is l ≡ meant w e
+    → wholeLookup (drop x w) l ≡ meant w (wholeAt w x e)
 whole-by w x e l true t m = rw (t, drop-of-length-le w {i = x} (leb-true (length w) x t)) m
 whole-by w x e l false t m = rw (t, drop-cons w x 0 (leb-false (length w) x t))
 
@@ -75,7 +78,8 @@ one-at : (w : List ℕ) (props a : ℕ) → kind1 props (drop a w) ≡ meant w (
 unfolding oneAt
 one-at w props a =
     rw (length-drop a w, getD-drop a w 0 0, getD-drop a w 1 0, add-zero a)
-    (pick w (eqb (length w - a) 2) (Is (Kind1 props (getD w a 0) (getD w (a + 1) 0))) None (Entry.One props (getD w a 0) (getD w (a + 1) 0)) Entry.Missing refl refl)
+    (pick w (eqb (length w - a) 2) (Is (Kind1 props (getD w a 0) (getD w (a + 1) 0))) None
+    (Entry.One props (getD w a 0) (getD w (a + 1) 0)) Entry.Missing refl refl)
 
 -- from a on: its first word and the words after it
 cons-at : (w : List ℕ) (a : ℕ) → ltb a (length w) ≡ true → drop a w ≡ getD w a 0 ∷ drop (a + 1) w

@@ -36,8 +36,8 @@ recordsOf [] = []
 recordsOf (seq ∷ []) = []
 recordsOf (seq ∷ k ∷ rest) = record { seq = seq; lookup = k } ∷ recordsOf rest
 
--- a chain over values of any kind: what its first glyph must be; backtrack, input and lookahead values, backtrack and lookahead from the nearest glyph
--- outwards; records (OpenType, chapter GSUB, types 5 and 6)
+-- a chain over values of any kind: what its first glyph must be; backtrack, input and lookahead values, backtrack and lookahead from the nearest
+-- glyph outwards; records (OpenType, chapter GSUB, types 5 and 6)
 pub record Chain (X : Type 0) : Type 0 where
   pub first : X
   pub backtrack : List X

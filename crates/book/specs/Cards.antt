@@ -16,7 +16,8 @@ k13-reads = refl
 -- a chain on 5 with 4 before it, 6 matched and 7 ahead, whose record applies lookup 1 at position 1; its props are 8 and mark set 3
 pub chained : readBook (3 ∷ 8 ∷ 3 ∷ 10 ∷ 5 ∷ 1 ∷ 4 ∷ 1 ∷ 6 ∷ 1 ∷ 7 ∷ 1 ∷ 1 ∷ 1 ∷ 1 ∷ 0 ∷ 0 ∷ 2 ∷ 6 ∷ 9 ∷ [])
     ≡ Reads
-    (Kind3 196616 (record { first = 5; backtrack = 4 ∷ []; input = 6 ∷ []; lookahead = 7 ∷ []; records = record { seq = 1; lookup = 1 } ∷ [] }) ∷ Kind1 0 6 9 ∷ [])
+    (Kind3 196616 (record { first = 5; backtrack = 4 ∷ []; input = 6 ∷ []; lookahead = 7 ∷ []; records = record { seq = 1; lookup = 1 } ∷ [] }) ∷
+    Kind1 0 6 9 ∷ [])
 unfolding readBook readLookups firstOf bodyOf counted recordsOf
 chained = refl
 

@@ -11,7 +11,8 @@ use lib.Dec.{leb, ltb}
 use lib.ListN.{length, getD, drop, length-drop, length-set, length-replicate, drop-of-length-le}
 use lib.Seq.{drop-cons, getD-set-same, getD-set-other}
 use Rattle.book.specs.declared.Entry.{Entry}
-use Rattle.book.specs.Book.{mostWords, mostLookups, Lookup, Kind1, Is, None, Reading, Reads, Unreadable, readFirst, readLookups, readBook, lookupAt}
+use Rattle.book.specs.Book.{mostWords, mostLookups, Lookup, Kind1, Is, None, Reading}
+use Rattle.book.specs.Book.{Reads, Unreadable, readFirst, readLookups, readBook, lookupAt}
 use Rattle.book.specs.Places.{meant, entryAt, missing, sizeAt, startOf, startSlots, indexed, indexOf, foundIn, foundAt}
 use Rattle.book.specs.Inside.{EntryInside}
 use Rattle.book.specs.Readings.{entry-inside}
@@ -86,7 +87,8 @@ left-at ws n ls e zero h = let z : n - 0 ≡ n = omega arith in rw z e
 left-at ws n ls e (suc k) h =
     let at : ℕ = startOf k ws in
     let d : drop k ls ≡ getD ls k some ∷ drop (suc k) ls = drop-cons ls k some (omega arith) in
-    let o = off ws (n - k) (startOf k ws) (getD ls k some) (drop (suc k) ls) (ltb (startOf k ws) (length ws)) refl (left-at ws n ls e k (omega arith) ∙ ap Reads d) in
+    let o = off ws (n - k) (startOf k ws) (getD ls k some) (drop (suc k) ls) (ltb (startOf k ws) (length ws)) refl
+    (left-at ws n ls e k (omega arith) ∙ ap Reads d) in
     let z : n - suc k ≡ n - k - 1 = omega arith in
     rw z (o .rest)
 
@@ -95,7 +97,8 @@ pub start-is : (ws : List ℕ) (n : ℕ) (ls : List Lookup) → readLookups n ws
     → meant ws (entryAt ws (startOf k ws)) ≡ Is (getD ls k some)
 start-is ws n ls e k h =
     let d : drop k ls ≡ getD ls k some ∷ drop (suc k) ls = drop-cons ls k some h in
-    off ws (n - k) (startOf k ws) (getD ls k some) (drop (suc k) ls) (ltb (startOf k ws) (length ws)) refl (left-at ws n ls e k (omega arith) ∙ ap Reads d) .is
+    off ws (n - k) (startOf k ws) (getD ls k some) (drop (suc k) ls) (ltb (startOf k ws) (length ws)) refl
+    (left-at ws n ls e k (omega arith) ∙ ap Reads d) .is
 
 lookup-is : (k : ℕ) (ls : List Lookup) → k < length ls → lookupAt k ls ≡ Is (getD ls k some)
 unfolding lookupAt

@@ -41,7 +41,8 @@ Held n most (Counted.Is p) = PartInside n most p
 Held n most Counted.Not = Unit {0}
 
 held-by : (n x v each most : ℕ) (t b c : Bool) → ltb x n ≡ t → leb v most ≡ b → leb (each * v) (n - (x + 1)) ≡ c
-    → Held n (each * most) (cond t (cond b (cond c (Counted.Is (record { from = x + 1; to = x + 1 + each * v })) Counted.Not) Counted.Not) Counted.Not)
+    → Held n (each * most) (cond t
+    (cond b (cond c (Counted.Is (record { from = x + 1; to = x + 1 + each * v })) Counted.Not) Counted.Not) Counted.Not)
 held-by n x v each most true true true e f g =
     let h = ltb-true x n e in
     let k = leb-true (each * v) (n - (x + 1)) g in
@@ -54,9 +55,11 @@ held-by n x v each most false b c e f g = tt
 held : (w : List ℕ) (x each most : ℕ) → Held (length w) (each * most) (countedAt w x each most)
 unfolding countedAt
 held w x each most =
-    held-by (length w) x (getD w x 0) each most (ltb x (length w)) (leb (getD w x 0) most) (leb (each * getD w x 0) (length w - (x + 1))) refl refl refl
+    held-by (length w) x (getD w x 0) each most (ltb x (length w)) (leb (getD w x 0) most)
+    (leb (each * getD w x 0) (length w - (x + 1))) refl refl refl
 
-good-then : (n most : ℕ) (g : Part → Entry) → ((p : Part) → PartInside n most p → EntryInside n (g p)) → (r : Counted) → Held n most r → EntryInside n (partThen r g)
+good-then : (n most : ℕ) (g : Part → Entry) → ((p : Part) → PartInside n most p → EntryInside n (g p)) → (r : Counted) → Held n most r
+    → EntryInside n (partThen r g)
 good-then n most g h (Counted.Is p) i = h p i
 good-then n most g h Counted.Not i = tt
 

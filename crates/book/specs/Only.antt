@@ -9,7 +9,9 @@ use borrow.Author.Tests.{leb-true, eqb-true, le-leb, lt-leb}
 use lib.Dec.{eqb, leb}
 use lib.ListN.{length, getD, take, drop, take-append-drop}
 use lib.Seq.{length-take-le, getD-append-add}
-use Rattle.book.specs.Book.{mostLookups, mostIds, mostInput, mostSide, mostRecords, recordsOf, Chain, Lookup, Kind1, Kind2, Kind3, Found, Is, None, Split, Taken, Short, counted, andThen, wholeLookup, kind1, kind2, kind3, bodyOf, First, Read, Nothing, followed, firstOf, Reading, Reads, Unreadable, readFirst, readOn, readLookups, readBook}
+use Rattle.book.specs.Book.{mostLookups, mostIds, mostInput, mostSide, mostRecords, recordsOf, Chain, Lookup, Kind1, Kind2, Kind3, Found}
+use Rattle.book.specs.Book.{Is, None, Split, Taken, Short, counted, andThen, wholeLookup, kind1, kind2, kind3, bodyOf}
+use Rattle.book.specs.Book.{First, Read, Nothing, followed, firstOf, Reading, Reads, Unreadable, readFirst, readOn, readLookups, readBook}
 use Rattle.book.specs.Encode.{kindOf, propsOf, numbered, contentOf, encode, encodeAll, LookupWithin, AllWithin, Narrow, Legal}
 use Rattle.book.specs.Records.{records-length, pairs-back}
 use Rattle.book.specs.Starts.{no-read}
@@ -181,7 +183,8 @@ heads-found kind low high size v rest l (Is k) e h m r =
 heads-found kind low high size v rest l None e h m r = absurd (not-read l rest r)
 
 heads-by : (kind low high size : ℕ) (v rest : List ℕ) (l : Lookup) (b : Bool) → leb size (length v) ≡ b → low < 65536
-    → cond b (followed (drop size v) (bodyOf kind (low + 65536 * high) (take size v))) Nothing ≡ Read l rest → Heads (kind ∷ low ∷ high ∷ size ∷ v) l rest
+    → cond b (followed (drop size v) (bodyOf kind (low + 65536 * high) (take size v))) Nothing ≡ Read l rest
+    → Heads (kind ∷ low ∷ high ∷ size ∷ v) l rest
 heads-by kind low high size v rest l true e h r =
     heads-found kind low high size v rest l (bodyOf kind (low + 65536 * high) (take size v)) refl h (leb-true size (length v) e) r
 heads-by kind low high size v rest l false e h r = absurd (not-read l rest r)
@@ -236,7 +239,8 @@ module _ (n : ℕ) (again : (ws : List ℕ) (ls : List Lookup) → Narrow ws →
       lists-more ws rest l ks ls h (again rest ks (rest-narrow ws rest l w h) e) s
   lists-rest ws rest l ls Unreadable w h e f = absurd (no-read ls f)
 
-  lists-first : (ws : List ℕ) (ls : List Lookup) (f : First) → Narrow ws → firstOf ws ≡ f → readOn f (λ rest. readLookups n rest) ≡ Reads ls → Lists ws ls
+  lists-first : (ws : List ℕ) (ls : List Lookup) (f : First) → Narrow ws → firstOf ws ≡ f → readOn f (λ rest. readLookups n rest) ≡ Reads ls
+      → Lists ws ls
   lists-first ws ls (Read l rest) w e r = lists-rest ws rest l ls (readLookups n rest) w (heads ws rest l w e) refl r
   lists-first ws ls Nothing w e r = absurd (no-read ls r)
 

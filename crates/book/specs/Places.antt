@@ -1,4 +1,5 @@
--- The code's side: where a lookup's parts stand in the book's words, as the code finds them. Readings.antt shows that they are the lookups of the definition.
+-- The code's side: where a lookup's parts stand in the book's words, as the code finds them. Readings.antt shows that they are the lookups of the
+-- definition.
 use Prim.Native.Nat.{ℕ, zero, suc, _+_, _-_, _*_}
 use mathlib.Core.Bool.{Bool, true, false, cond}
 use mathlib.Core.List.{List, _++_}
@@ -10,7 +11,8 @@ use Rattle.book.specs.declared.Counted.{Counted}
 use Rattle.book.specs.declared.ChainParts.{ChainParts}
 use Rattle.book.specs.declared.Entry.{Entry}
 use Rattle.book.specs.declared.Index.{Index}
-use Rattle.book.specs.Book.{mostLookups, mostIds, mostInput, mostSide, mostRecords, Reading, Reads, Unreadable, Found, Is, None, Chain, Kind1, Kind2, Kind3, recordsOf, readBook}
+use Rattle.book.specs.Book.{mostLookups, mostIds, mostInput, mostSide, mostRecords, Reading, Reads, Unreadable, Found}
+use Rattle.book.specs.Book.{Is, None, Chain, Kind1, Kind2, Kind3, recordsOf, readBook}
 
 -- the words of a part
 abbrev pub partOf : List ℕ → Part → List ℕ
@@ -82,7 +84,8 @@ unfoldable pub entryAt : List ℕ → ℕ → Entry
 entryAt ws at =
     let size = getD ws (at + 3) 0 in
     let props = getD ws (at + 1) 0 + 65536 * getD ws (at + 2) 0 in
-    cond (leb 4 (length ws - at)) (cond (leb size (length ws - (at + 4))) (kindAt (upTo ws at) (getD ws at 0) props (at + 4)) Entry.Missing) Entry.Missing
+    cond (leb 4 (length ws - at)) (cond (leb size (length ws - (at + 4))) (kindAt (upTo ws at) (getD ws at 0) props (at + 4)) Entry.Missing)
+    Entry.Missing
 
 abbrev pub missing : Entry → Bool
 missing (Entry.One props from to) = false

@@ -32,7 +32,8 @@ module _ (ws : List ℕ) (at : ℕ) where
   kinded = kindAt (upTo ws at) (getD ws at 0) (getD ws (at + 1) 0 + 65536 * getD ws (at + 2) 0) (at + 4)
 
   front : at + 4 + size ≤ length ws → EntryInside (at + 4 + size) kinded
-  front h = rw (length-take-le (at + 4 + size) ws h) at (good-kind (upTo ws at) (getD ws at 0) (getD ws (at + 1) 0 + 65536 * getD ws (at + 2) 0) (at + 4))
+  front h = rw (length-take-le (at + 4 + size) ws h) at
+      (good-kind (upTo ws at) (getD ws at 0) (getD ws (at + 1) 0 + 65536 * getD ws (at + 2) 0) (at + 4))
 
   good-by : (t b : Bool) → leb 4 (length ws - at) ≡ t → leb size (length ws - (at + 4)) ≡ b
       → EntryInside (length ws) (cond t (cond b kinded Entry.Missing) Entry.Missing)

@@ -1,4 +1,5 @@
--- A walk over a book, lookup by lookup: what is read before a place, and what is left from it on. Where a book reads, the walk's k-th start is where lookup k begins.
+-- A walk over a book, lookup by lookup: what is read before a place, and what is left from it on. Where a book reads, the walk's k-th start is where
+-- lookup k begins.
 use mathlib.Core.Path.{_≡_, refl, sym, ap, _∙_}
 use mathlib.Core.Bool.{Bool, true, false, true≢false}
 use mathlib.Core.List.{List, [], _∷_, _++_}
@@ -9,7 +10,8 @@ use borrow.Author.Tests.{le-leb, lt-leb}
 use lib.ListN.{length, getD, drop, set, length-append, length-drop, drop-of-length-le}
 use Rattle.book.specs.declared.Entry.{Entry}
 use Rattle.book.specs.declared.Index.{Index}
-use Rattle.book.specs.Book.{mostWords, mostLookups, Lookup, Kind1, Kind2, Kind3, Found, Is, None, First, followed, firstOf, Reading, Reads, Unreadable, readFirst, readOn, readLookups, readBook, isRead}
+use Rattle.book.specs.Book.{mostWords, mostLookups, Lookup, Kind1, Kind2, Kind3, Found, Is, None, First}
+use Rattle.book.specs.Book.{followed, firstOf, Reading, Reads, Unreadable, readFirst, readOn, readLookups, readBook, isRead}
 use Rattle.bits.specs.Bits.{zeros}
 use Rattle.book.specs.Places.{partOf, chainOf, meant, entryAt, missing, sizeAt, startOf, startSlots, noIndex, indexed, indexOf}
 use Rattle.book.specs.Readings.{first-at, entry-fits}

@@ -6,7 +6,8 @@ use native.Mathlib.Omega.{arith}
 use borrow.Author.Tests.{le-leb}
 use lib.ListN.{length, length-append}
 use lib.Seq.{take-at, drop-at}
-use Rattle.book.specs.Book.{mostWords, mostLookups, mostIds, mostInput, mostSide, mostRecords, Lookup, Kind1, Kind2, Kind3, Is, Taken, counted, bodyOf, Read, firstOf, Reads, readLookups, readBook}
+use Rattle.book.specs.Book.{mostWords, mostLookups, mostIds, mostInput, mostSide, mostRecords, Lookup, Kind1, Kind2, Kind3}
+use Rattle.book.specs.Book.{Is, Taken, counted, bodyOf, Read, firstOf, Reads, readLookups, readBook}
 use Rattle.book.specs.Encode.{pairsOf, kindOf, propsOf, numbered, contentOf, encode, encodeAll, LookupWithin, AllWithin, Legal}
 use Rattle.book.specs.Records.{pairs-length, records-back}
 use Rattle.book.specs.Starts.{reads-nil, reads-cons}

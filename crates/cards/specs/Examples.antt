@@ -34,7 +34,8 @@ abbrev ligature : ℕ → Glyph
 ligature lig = glyph 40 0 4 lig 0 3
 
 abbrev lookahead : List Glyph → ℕ → List ℕ → List (List ℕ)
-lookahead text start values = spelled (contextReply (contextTold (ahead (length text)) start (aheadOn (lookup Gsub 0) [] equalTo text start 0 values)))
+lookahead text start values = spelled
+    (contextReply (contextTold (ahead (length text)) start (aheadOn (lookup Gsub 0) [] equalTo text start 0 values)))
 
 abbrev backtrack : List Glyph → List ℕ → List (List ℕ)
 backtrack row values = spelled (contextReply (contextTold behind (length row) (backOn (lookup Gsub 0) [] equalTo row 0 values)))

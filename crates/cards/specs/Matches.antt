@@ -1,5 +1,5 @@
--- Cards K1 to K6 of 01: input matching on rows of words, refusals and all. Each answer is the number of its reply and then the values: of a success the
--- end, the total, the number of positions and the positions; else the extent.
+-- Cards K1 to K6 of 01: input matching on rows of words, refusals and all. Each answer is the number of its reply and then the values: of a success
+-- the end, the total, the number of positions and the positions; else the extent.
 use mathlib.Core.Bool.{false}
 use mathlib.Core.List.{List, [], _∷_, _++_}
 use Prim.Native.Nat.{ℕ}

@@ -1,5 +1,5 @@
--- Cards K11 to K14 of 01: runs of one record over three glyphs that end the row. Each answer is its number, the text's ids, the positions, and d with the
--- number spent.
+-- Cards K11 to K14 of 01: runs of one record over three glyphs that end the row. Each answer is its number, the text's ids, the positions, and d with
+-- the number spent.
 use mathlib.Core.Bool.{false}
 use mathlib.Core.List.{List, [], _∷_, _++_, map}
 use Prim.Native.Nat.{ℕ, _+_, _-_, _*_}
@@ -36,7 +36,8 @@ turning ids = 2 ∷ 0 ∷ 0 ∷ (2 + length ids) ∷ 2 ∷ length ids ∷ ids
 abbrev shows : Checked → Stage → List (List ℕ)
 shows (Checked.Refused why) v = (runRefusalNumber why ∷ []) ∷ []
 shows Checked.Accepted v =
-    (endingNumber (v .run .tally .ending) ∷ []) ∷ map (λ (g : Glyph). g .id) (v .run .text .glyphs) ∷ v .level .positions ∷ (v .run .text .cursor ∷ v .run .tally .spent ∷ []) ∷ []
+    (endingNumber (v .run .tally .ending) ∷ []) ∷ map (λ (g : Glyph). g .id) (v .run .text .glyphs) ∷ v .level .positions ∷
+    (v .run .text .cursor ∷ v .run .tally .spent ∷ []) ∷ []
 
 -- record (1, 0) over ids 1, 2, 3, matched whole
 abbrev handed : List ℕ → Handed

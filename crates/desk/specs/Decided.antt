@@ -35,5 +35,6 @@ module _ (done coming : List ℕ) (place : Place) (sets book records : List ℕ)
       → Ended done′ coming′ r → Ended done″ coming″ r′ → (r ≡ r′) × (done′ ≡ done″) × (coming′ ≡ coming″)
   ran-decided done′ coming′ r done″ coming″ r′ a b a′ b′ s s′ =
       let same =
-      run-decided (checkedAll handed allowance depth) (runSays handed allowance depth) done coming done′ coming′ (s .0) done″ coming″ (s′ .0) a b a′ b′ (s .1 .0) (s′ .1 .0) in
+      run-decided (checkedAll handed allowance depth) (runSays handed allowance depth) done coming done′ coming′ (s .0) done″ coming″
+      (s′ .0) a b a′ b′ (s .1 .0) (s′ .1 .0) in
       (s .1 .1 ∙ ap ranOf (same .answer) ∙ sym (s′ .1 .1), same .done-same, same .coming-same)

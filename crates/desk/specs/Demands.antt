@@ -1,5 +1,5 @@
--- Demands 1 and 3 of `cb_run`, in the numbers that it answers with (01, "When the desk says no", "Nailing an answer down"). Said of any answer and rows that meet its contract,
--- so of every call of it.
+-- Demands 1 and 3 of `cb_run`, in the numbers that it answers with (01, "When the desk says no", "Nailing an answer down"). Said of any answer and
+-- rows that meet its contract, so of every call of it.
 use mathlib.Core.Path.{_≡_, refl, sym, ap, subst, _∙_}
 use mathlib.Core.List.{List, [], _∷_}
 use mathlib.Core.Logic.{_↔_, Iff·trans, inl}
@@ -88,10 +88,12 @@ pub record RanDemand1 (h : RanHanded) (allowance depth : ℕ) (l : RanLeft) : Ty
 -- two calls of the same text
 pub record RanDemand3 (h h′ : RanHanded) : Type 0 where
   -- Finished (0); with at least its allowance and depth, within 12's limits, the same answer and the same words
-  pub more-same : (a d a′ d′ : ℕ) (l l′ : RanLeft) → RanCalled h a d l → RanCalled h′ a′ d′ l′ → ranNumber l ≡ 0 → a ≤ a′ → d ≤ d′ → Limited a′ d′ → l ≡ l′
+  pub more-same : (a d a′ d′ : ℕ) (l l′ : RanLeft) → RanCalled h a d l → RanCalled h′ a′ d′ l′ → ranNumber l ≡ 0 → a ≤ a′ → d ≤ d′ → Limited a′ d′
+      → l ≡ l′
   pub beyond-12 : (a d a′ d′ : ℕ) (l l′ : RanLeft) → RanCalled h a d l → RanCalled h′ a′ d′ l′ → ranNumber l ≡ 0 → Beyond a′ d′ → ranNumber l′ ≡ 12
   -- with less than it spent, and the same depth, Short (8)
-  pub less-short : (a d a′ : ℕ) (l l′ : RanLeft) → RanCalled h a d l → RanCalled h′ a′ d l′ → ranNumber l ≡ 0 → a′ < l .answer .spent → ranNumber l′ ≡ 8
+  pub less-short : (a d a′ : ℕ) (l l′ : RanLeft) → RanCalled h a d l → RanCalled h′ a′ d l′ → ranNumber l ≡ 0 → a′ < l .answer .spent
+      → ranNumber l′ ≡ 8
 
 -- ---- a call keeps them, as the room's call below it does
 
@@ -136,7 +138,8 @@ module _ (h : RanHanded) (allowance depth : ℕ) (l : RanLeft) (c : RanCalled h 
   same-number = number-is a (a .ending) refl ∙ sym number-of
 
   -- what the contract says of a refusal
-  nothing-changed : (k : Checked) → SaidBy k (runSays (handedBy h) allowance depth) (h .done) (h .coming) (l .done) (l .coming) a → (Ends (ranNumber l) → ⊥)
+  nothing-changed : (k : Checked) → SaidBy k (runSays (handedBy h) allowance depth) (h .done) (h .coming) (l .done) (l .coming) a
+      → (Ends (ranNumber l) → ⊥)
       → (l .answer ≡ refusedRan (ranNumber l)) × (l .done ≡ h .done) × (l .coming ≡ h .coming)
   nothing-changed (Checked.Refused why) s n =
       let e : l .answer ≡ refusedRan (runRefusalNumber why) = c .said .1 .1 ∙ ap ranOf (s .0) in
@@ -166,7 +169,8 @@ module _ (h : RanHanded) (allowance depth : ℕ) (l : RanLeft) (c : RanCalled h 
         deep-9 = with-number 9 (room .deep-9);
         full-10 = with-number 10 (room .full-10);
         rows = λ e.
-            let o : HoldsOnly (l .done) (l .coming) (placeLeft below) (runSays (handedBy h) allowance depth .run .text) = room .rows (subst Ends (sym same-number) e) in
+            let o : HoldsOnly (l .done) (l .coming) (placeLeft below) (runSays (handedBy h) allowance depth .run .text) =
+            room .rows (subst Ends (sym same-number) e) in
             subst (λ (r : Ran). HoldsOnly (l .done) (l .coming) (record { d = r .d; idx = r .idx }) (runSays (handedBy h) allowance depth .run .text))
             (sym (c .said .1 .1)) o;
       }
@@ -177,11 +181,13 @@ ran-demand-3 h h′ s =
     let room = demand-3 (handedBy h) (handedBy h′) s in
     record {
       more-same = λ a d a′ d′ l l′ c c′ z more deeper lim.
-          let m = room .more-same a d a′ d′ (below h a d l c) (below h′ a′ d′ l′ c′) (called h a d l c) (called h′ a′ d′ l′ c′) (same-number h a d l c ∙ z) more deeper lim in
+          let m = room .more-same a d a′ d′ (below h a d l c) (below h′ a′ d′ l′ c′) (called h a d l c) (called h′ a′ d′ l′ c′)
+          (same-number h a d l c ∙ z) more deeper lim in
           let e : l .answer ≡ l′ .answer = c .said .1 .1 ∙ ap ranOf (m .answer) ∙ sym (c′ .said .1 .1) in
           λ j. record { answer = e j; done = m .done-same j; coming = m .coming-same j };
       beyond-12 = λ a d a′ d′ l l′ c c′ z b.
-          let m = room .beyond-12 a d a′ d′ (below h a d l c) (below h′ a′ d′ l′ c′) (called h a d l c) (called h′ a′ d′ l′ c′) (same-number h a d l c ∙ z) b in
+          let m = room .beyond-12 a d a′ d′ (below h a d l c) (below h′ a′ d′ l′ c′) (called h a d l c) (called h′ a′ d′ l′ c′)
+          (same-number h a d l c ∙ z) b in
           sym (same-number h′ a′ d′ l′ c′) ∙ ap numberIn m;
       less-short = λ a d a′ l l′ c c′ z lt.
           let r = c .said .0 in

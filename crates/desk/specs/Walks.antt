@@ -1,4 +1,5 @@
--- For C, a layout of our own: what goes into the questions and the walks as numbers, and what comes back: number and value of each answer, as the rooms' replies have them.
+-- For C, a layout of our own: what goes into the questions and the walks as numbers, and what comes back: number and value of each answer, as the
+-- rooms' replies have them.
 use mathlib.Core.Bool.{Bool, true, false}
 use lib.ListN.{getD}
 use Rattle.glyph.specs.Reply.{Reply}

@@ -23,7 +23,8 @@ pub extern "C" fn cb_budget_new(left: &mut [u64; 2], work: u64, bytes: u64)
 
 #[no_mangle]
 pub extern "C" fn cb_budget_work(left: &mut [u64; 2], visits: u64) -> bool
-    ensures { λ r. ⌜ (r ≡ wasTaken (worked visits (budgetOf (now (left .entry))) .charge)) × (now (left .exit) ≡ budgetWords (worked visits (budgetOf (now (left .entry))) .left)) ⌝ }
+    ensures { λ r. ⌜ (r ≡ wasTaken (worked visits (budgetOf (now (left .entry))) .charge))
+        × (now (left .exit) ≡ budgetWords (worked visits (budgetOf (now (left .entry))) .left)) ⌝ }
 {
     let c = Budget::new(left[0], left[1]).work(visits);
     let b = c.left;
@@ -34,7 +35,8 @@ pub extern "C" fn cb_budget_work(left: &mut [u64; 2], visits: u64) -> bool
 
 #[no_mangle]
 pub extern "C" fn cb_budget_alloc(left: &mut [u64; 2], count: u64, size: u64) -> bool
-    ensures { λ r. ⌜ (r ≡ wasTaken (allocated count size (budgetOf (now (left .entry))) .charge)) × (now (left .exit) ≡ budgetWords (allocated count size (budgetOf (now (left .entry))) .left)) ⌝ }
+    ensures { λ r. ⌜ (r ≡ wasTaken (allocated count size (budgetOf (now (left .entry))) .charge))
+        × (now (left .exit) ≡ budgetWords (allocated count size (budgetOf (now (left .entry))) .left)) ⌝ }
 {
     let c = Budget::new(left[0], left[1]).alloc(count, size);
     let b = c.left;

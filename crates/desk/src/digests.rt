@@ -37,7 +37,8 @@ pub extern "C" fn cb_digest_clear(masks: &mut [u64; 3])
 
 #[no_mangle]
 pub extern "C" fn cb_digest_union(masks: &mut [u64; 3], other: &[u64; 3])
-    ensures { λ _. ⌜ Says (digestOf (now (masks .exit))) (united (bitsOf (digestOf (now (masks .entry)))) (bitsOf (digestOf (now (other .entry))))) ⌝ }
+    ensures { λ _. ⌜ Says (digestOf (now (masks .exit)))
+        (united (bitsOf (digestOf (now (masks .entry)))) (bitsOf (digestOf (now (other .entry))))) ⌝ }
 {
     let m = *masks;
     let o = *other;
@@ -68,7 +69,8 @@ pub extern "C" fn cb_digest_add_array(masks: &mut [u64; 3], glyphs: &[u32])
 
 #[no_mangle]
 pub extern "C" fn cb_digest_add_range(masks: &mut [u64; 3], a: u32, b: u32) -> bool
-    ensures { λ r. ⌜ Says (digestOf (now (masks .exit))) (ranged a b (bitsOf (digestOf (now (masks .entry))))) × (r ≡ rangeYes a b (bitsOf (digestOf (now (masks .entry))))) ⌝ }
+    ensures { λ r. ⌜ Says (digestOf (now (masks .exit))) (ranged a b (bitsOf (digestOf (now (masks .entry)))))
+        × (r ≡ rangeYes a b (bitsOf (digestOf (now (masks .entry))))) ⌝ }
 {
     let m = *masks;
     let d = SetDigest { masks: m }.add_range(a, b);

@@ -40,7 +40,9 @@ pub extern "C" fn cb_match_input(
     test: u8,
     values: &[u32],
 ) -> Matched
-    ensures { λ r. ⌜ r ≡ matchedOf (inputOf (now (done .entry)) d (now (coming .entry)) len idx (termsFor lookup) (now (sets .entry)) (valueBy (testOf test) []) (now (values .entry))) ⌝ }
+    ensures { λ r. ⌜ r ≡ matchedOf
+        (inputOf (now (done .entry)) d (now (coming .entry)) len idx (termsFor lookup) (now (sets .entry)) (valueBy (testOf test) [])
+        (now (values .entry))) ⌝ }
 {
     input_told(matching_calls::match_input(
         done,
@@ -68,7 +70,8 @@ pub extern "C" fn cb_match_lookahead(
     test: u8,
     values: &[u32],
 ) -> Placed
-    ensures { λ r. ⌜ r ≡ placedOf (aheadOf (now (done .entry)) d (now (coming .entry)) len idx start (termsFor lookup) (now (sets .entry)) (valueBy (testOf test) []) (now (values .entry))) ⌝ }
+    ensures { λ r. ⌜ r ≡ placedOf (aheadOf (now (done .entry)) d (now (coming .entry)) len idx start (termsFor lookup) (now (sets .entry))
+        (valueBy (testOf test) []) (now (values .entry))) ⌝ }
 {
     context_told(matching_calls::match_lookahead(
         done,
@@ -96,7 +99,8 @@ pub extern "C" fn cb_match_backtrack<'a>(
     test: u8,
     values: &[u32],
 ) -> Placed
-    ensures { λ r. ⌜ r ≡ placedOf (backOf (now (done .entry)) d (now (coming .entry)) len idx (termsFor lookup) (now (sets .entry)) (valueBy (testOf test) []) (now (values .entry))) ⌝ }
+    ensures { λ r. ⌜ r ≡ placedOf (backOf (now (done .entry)) d (now (coming .entry)) len idx (termsFor lookup) (now (sets .entry))
+        (valueBy (testOf test) []) (now (values .entry))) ⌝ }
 {
     context_told(matching_calls::match_backtrack(
         done,

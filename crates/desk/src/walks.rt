@@ -71,7 +71,8 @@ pub extern "C" fn cb_may_match(
     context: bool,
     sought: Sought,
 ) -> Said
-    ensures { λ r. ⌜ r ≡ saidOf (matchReply (askMatch (now (row .entry)) place (matcherFor lookup context) (valueOf (signOf sought) []) (sought .syllable))) ⌝ }
+    ensures { λ r. ⌜ r ≡ saidOf (matchReply
+        (askMatch (now (row .entry)) place (matcherFor lookup context) (valueOf (signOf sought) []) (sought .syllable))) ⌝ }
 {
     said_match(verdict_ask::ask_match(
         row,
@@ -91,7 +92,8 @@ pub extern "C" fn cb_verdict(
     sought: Sought,
     sets: &[u16],
 ) -> Said
-    ensures { λ r. ⌜ r ≡ saidOf (verdictReply (askVerdict (now (row .entry)) place (matcherFor lookup context) (valueOf (signOf sought) []) (sought .syllable) (now (sets .entry)))) ⌝ }
+    ensures { λ r. ⌜ r ≡ saidOf (verdictReply
+        (askVerdict (now (row .entry)) place (matcherFor lookup context) (valueOf (signOf sought) []) (sought .syllable) (now (sets .entry)))) ⌝ }
 {
     said_verdict(verdict_ask::ask_verdict(
         row,
@@ -113,7 +115,8 @@ pub extern "C" fn cb_forward(
     sought: Sought,
     sets: &[u16],
 ) -> Step
-    ensures { λ r. ⌜ r ≡ stepOf (forwardOf (now (row .entry)) len place (matcherFor lookup context) (valueOf (signOf sought) []) (sought .syllable) (now (sets .entry))) ⌝ }
+    ensures { λ r. ⌜ r ≡ stepOf (forwardOf (now (row .entry)) len place (matcherFor lookup context) (valueOf (signOf sought) []) (sought .syllable)
+        (now (sets .entry))) ⌝ }
 {
     stepped(walk::forward(
         row,
@@ -135,7 +138,8 @@ pub extern "C" fn cb_backward(
     sought: Sought,
     sets: &[u16],
 ) -> Step
-    ensures { λ r. ⌜ r ≡ stepOf (backwardOf (now (row .entry)) place (matcherFor lookup context) (valueOf (signOf sought) []) (sought .syllable) (now (sets .entry))) ⌝ }
+    ensures { λ r. ⌜ r ≡ stepOf (backwardOf (now (row .entry)) place (matcherFor lookup context) (valueOf (signOf sought) []) (sought .syllable)
+        (now (sets .entry))) ⌝ }
 {
     stepped(walk::backward(
         row,

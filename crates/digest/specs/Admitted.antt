@@ -31,7 +31,8 @@ module _ (f : Bits) where
 
   -- by add
   pub added-admits : (g : ℕ) → mayHave (added g f) g ≡ true
-  added-admits g = every-so (λ i. added g f i (place i g)) 3 (λ i l. or-right (f i (place i g)) (eqb (place i g) (place i g)) (eq-eqb (place i g) (place i g) refl))
+  added-admits g = every-so (λ i. added g f i (place i g)) 3
+      (λ i l. or-right (f i (place i g)) (eqb (place i g) (place i g)) (eq-eqb (place i g) (place i g) refl))
 
   -- by union, from either side
   pub union-admits-left : (h : Bits) (g : ℕ) → mayHave f g ≡ true → mayHave (united f h) g ≡ true
@@ -84,7 +85,8 @@ module _ (i a b : ℕ) (up : a ≤ b) (small : b < 2 ^ 32) where
 
   met : (g : ℕ) → a ≤ g → g ≤ b → wide i a b ≡ false → round (place i a) (place i b) (place i g) ≡ true
   met g h l e =
-      met-by (a / 2 ^ shift i) (g / 2 ^ shift i) (b / 2 ^ shift i) (leb (place i a) (place i b)) (shr-mono (shift i) h) (shr-mono (shift i) l) (narrow e) refl
+      met-by (a / 2 ^ shift i) (g / 2 ^ shift i) (b / 2 ^ shift i) (leb (place i a) (place i b)) (shr-mono (shift i) h) (shr-mono (shift i) l)
+      (narrow e) refl
 
   set-by : (g : ℕ) (t : Bool) → a ≤ g → g ≤ b → wide i a b ≡ t → (wide i a b || round (place i a) (place i b) (place i g)) ≡ true
   set-by g true h l e = or-left (wide i a b) (round (place i a) (place i b) (place i g)) e
@@ -95,7 +97,8 @@ pub range-admits : (a b g : ℕ) (f : Bits) → a ≤ g → g ≤ b → b < 2 ^ 
 unfolding ranged
 range-admits a b g f h l small =
     every-so (λ i. ranged a b f i (place i g)) 3
-    (λ i m. or-right (f i (place i g)) (wide i a b || round (place i a) (place i b) (place i g)) (set-by i a b (omega arith) small g (wide i a b) h l refl))
+    (λ i m. or-right (f i (place i g)) (wide i a b || round (place i a) (place i b) (place i g))
+    (set-by i a b (omega arith) small g (wide i a b) h l refl))
 
 -- a number on the way from x to y whose bit is k
 abbrev reached : ℕ → ℕ → ℕ

@@ -4,7 +4,8 @@ ghost use mathlib.Core.Bool.{_||_};
 ghost use Prim.Native.Nat.{ℕ, _/_, _^_, _<_};
 ghost use Rattle.bits.specs.Bits.{bit};
 ghost use Rattle.mask.specs.Mask.{round};
-ghost use Rattle.digest.specs.Digest.{Says, bitsOf, shift, place, wide, noneSet, allSet, united, added, addedAll, ranged, everyBit, rangeYes, mayHave, mayIntersect};
+ghost use Rattle.digest.specs.Digest.{Says, bitsOf, shift, place, wide, noneSet, allSet, united};
+ghost use Rattle.digest.specs.Digest.{added, addedAll, ranged, everyBit, rangeYes, mayHave, mayIntersect};
 
 const SHIFTS: [u32; 3] = [4, 0, 6];
 

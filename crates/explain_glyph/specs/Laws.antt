@@ -17,9 +17,11 @@ use Rattle.verdict.specs.declared.MayMatch.{MayMatch}
 use Rattle.verdict.specs.declared.Test.{Test}
 use Rattle.verdict.specs.declared.Test.the-variants.{Equal, Any, Nothing}
 use Rattle.verdict.specs.declared.Sign.{Sign}
-use Rattle.verdict.specs.Verdict.{isMark, usesSet, setNamed, classAsked, classOf, otherMark, skipYes, ignorable, skipOf, ruledOut, yesIf, valueBy, valueOf, matchOf, verdict, verdictOf}
+use Rattle.verdict.specs.Verdict.{isMark, usesSet, setNamed, classAsked, classOf, otherMark, skipYes, ignorable}
+use Rattle.verdict.specs.Verdict.{skipOf, ruledOut, yesIf, valueBy, valueOf, matchOf, verdict, verdictOf}
 use Rattle.explain_glyph.specs.declared.SkipReason.{SkipReason}
-use Rattle.explain_glyph.specs.declared.SkipReason.the-variants.{IgnoredBase, IgnoredLigature, IgnoredMark, OutsideSet, OtherClass, DefaultIgnorable, KeptZwnj, KeptZwj, KeptHidden, NotIgnorable}
+use Rattle.explain_glyph.specs.declared.SkipReason.the-variants.{IgnoredBase, IgnoredLigature, IgnoredMark, OutsideSet, OtherClass}
+use Rattle.explain_glyph.specs.declared.SkipReason.the-variants.{DefaultIgnorable, KeptZwnj, KeptZwj, KeptHidden, NotIgnorable}
 use Rattle.explain_glyph.specs.declared.MatchReason.{MatchReason}
 use Rattle.explain_glyph.specs.declared.MatchReason.the-variants.{NoMask, OtherSyllable, OtherId, EqualId, AnyId, NoTest}
 use Rattle.explain_glyph.specs.Reason.{yesReason, noReason, skipReason, skipFor, valueReason, matchReason, matchFor}
@@ -68,7 +70,8 @@ value-by Equal value g = equal-by (eqb (g .id) value)
 value-by Any value g = refl
 value-by Nothing value g = refl
 
-pub match-told : (m : Matcher) (sign : Sign) (syllable : ℕ) (g : Glyph) → matchFor (matchReason m sign syllable g) ≡ matchOf m (valueOf sign []) syllable g
+pub match-told : (m : Matcher) (sign : Sign) (syllable : ℕ) (g : Glyph) → matchFor (matchReason m sign syllable g)
+    ≡ matchOf m (valueOf sign []) syllable g
 unfolding matchReason matchOf ruledOut
 match-told m sign syllable g =
     match-by (eqb (bitAnd (g .mask) (m .mask)) 0) ((m .syllabic && not (eqb syllable 0)) && not (eqb syllable (g .syllable)))
@@ -138,7 +141,8 @@ module _ (m : Matcher) (sets : List ℕ) (g : Glyph) where
       (λ t. (and-left (bit 3 p) (bit 3 a) t, and-right (bit 3 p) (bit 3 a) t))
       (λ n₃.
       let o = last-of (bit 1 p && bit 1 a) (bit 2 p && bit 2 a) (bit 3 p && bit 3 a) (otherMark a sets p (g .id)) n₁ n₂ n₃ e in
-      let k = and-left (isMark p) (cond (usesSet a) (not (inSet sets (setNamed a) (g .id))) (not (eqb (classAsked a) 0) && not (eqb (classAsked a) (classOf p)))) o in
+      let k = and-left (isMark p) (cond (usesSet a) (not (inSet sets (setNamed a) (g .id)))
+      (not (eqb (classAsked a) 0) && not (eqb (classAsked a) (classOf p)))) o in
       pick Says (usesSet a) OutsideSet OtherClass (λ u. outside k u o) (λ u. other k u o))))
 
   -- a kind that isn't kept leaves the next

@@ -14,7 +14,8 @@ use Rattle.verdict.specs.declared.Test.the-variants.{Equal, Any, Nothing}
 use Rattle.verdict.specs.declared.Sign.{Sign}
 use Rattle.verdict.specs.Verdict.{usesSet, skipYes, ignorable}
 use Rattle.explain_glyph.specs.declared.SkipReason.{SkipReason}
-use Rattle.explain_glyph.specs.declared.SkipReason.the-variants.{IgnoredBase, IgnoredLigature, IgnoredMark, OutsideSet, OtherClass, DefaultIgnorable, KeptZwnj, KeptZwj, KeptHidden, NotIgnorable}
+use Rattle.explain_glyph.specs.declared.SkipReason.the-variants.{IgnoredBase, IgnoredLigature, IgnoredMark, OutsideSet, OtherClass}
+use Rattle.explain_glyph.specs.declared.SkipReason.the-variants.{DefaultIgnorable, KeptZwnj, KeptZwj, KeptHidden, NotIgnorable}
 use Rattle.explain_glyph.specs.declared.MatchReason.{MatchReason}
 use Rattle.explain_glyph.specs.declared.MatchReason.the-variants.{NoMask, OtherSyllable, OtherId, EqualId, AnyId, NoTest}
 

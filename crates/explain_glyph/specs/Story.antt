@@ -65,4 +65,5 @@ pub input-story : (m : Matcher) (sets : List ℕ) (test : Test) (searched gs : L
     → inputBy m sets (valueBy test []) searched gs idx values ≡ storyOf (turnAt m sets test searched gs idx) (length gs - (idx + 1)) (idx + 1) values
 unfolding inputBy
 input-story m sets test searched gs idx values h =
-    sym (story-takes (judge m sets (valueBy test []) (getD gs idx blank .syllable) gs) (joins m sets searched gs idx) (length gs) (length gs - (idx + 1)) (idx + 1) values (omega arith))
+    sym (story-takes (judge m sets (valueBy test []) (getD gs idx blank .syllable) gs) (joins m sets searched gs idx) (length gs)
+    (length gs - (idx + 1)) (idx + 1) values (omega arith))

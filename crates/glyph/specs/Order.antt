@@ -1,5 +1,5 @@
--- Tests in their order, as 01's table of refusals has them ("When the desk says no"): the first that holds answers, with its number. For any list of tests, and for any list of
--- lines that they tell.
+-- Tests in their order, as 01's table of refusals has them ("When the desk says no"): the first that holds answers, with its number. For any list of
+-- tests, and for any list of lines that they tell.
 use mathlib.Core.Path.{_≡_, refl, sym, ap, _∙_}
 use mathlib.Core.Bool.{Bool, true, false, cond, true≢false}
 use mathlib.Core.List.{List, [], _∷_}
@@ -34,7 +34,8 @@ NoneHolds ts = (i : ℕ) → i < length ts → testAt ts i .0 ≡ false
 first-by : (ts : List (Bool × ℕ)) (n : ℕ) → firstAnswer ts ≡ some n → FirstHolds ts n
 unfolding firstAnswer
 first-by [] n e = absurd (Option·none-ne-some n e)
-first-by ((true, k) ∷ ts) n e = record { place = 0; inside = omega arith; holds = ap (λ (m : ℕ). (true, m)) (Option·some-inj .0 e); before = λ i h. absurd (omega arith) }
+first-by ((true, k) ∷ ts) n e =
+    record { place = 0; inside = omega arith; holds = ap (λ (m : ℕ). (true, m)) (Option·some-inj .0 e); before = λ i h. absurd (omega arith) }
 first-by ((false, k) ∷ ts) n e =
     let f = first-by ts n e in
     let h = f .inside in
@@ -44,7 +45,8 @@ first-by ((false, k) ∷ ts) n e =
     later f zero h = refl
     later f (suc i) h = f .before i (omega arith)
 
-by-first : (ts : List (Bool × ℕ)) (n i : ℕ) → i < length ts → testAt ts i ≡ (true, n) → ((j : ℕ) → j < i → testAt ts j .0 ≡ false) → firstAnswer ts ≡ some n
+by-first : (ts : List (Bool × ℕ)) (n i : ℕ) → i < length ts → testAt ts i ≡ (true, n) → ((j : ℕ) → j < i → testAt ts j .0 ≡ false)
+    → firstAnswer ts ≡ some n
 unfolding firstAnswer
 by-first [] n i h e b = absurd (omega arith)
 by-first (t ∷ ts) n zero h e b = ap (λ (u : Bool × ℕ). cond (u .0) (some (u .1)) (firstAnswer ts)) e
@@ -107,7 +109,8 @@ linesOf [] = []
 linesOf (t ∷ ts) = t .line ∷ linesOf ts
 
 -- one line more
-one-more : (b : Bool) (k n : ℕ) (rest : Option ℕ) {L R : Type 0} → (b ≡ false) ↔ L → (rest ≡ some n) ↔ R → (cond b (some k) rest ≡ some n) ↔ (((k ≡ n) × (L → ⊥)) ⊎ (L × R))
+one-more : (b : Bool) (k n : ℕ) (rest : Option ℕ) {L R : Type 0} → (b ≡ false) ↔ L → (rest ≡ some n) ↔ R → (cond b (some k) rest ≡ some n)
+    ↔ (((k ≡ n) × (L → ⊥)) ⊎ (L × R))
 one-more true k n rest t r = (
   λ e. inl (Option·some-inj .0 e, λ l. true≢false (t .1 l)),
   ⊎-elim (λ h. ap some (h .0)) (λ h. absurd (true≢false (t .1 (h .0)))),

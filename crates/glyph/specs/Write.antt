@@ -1,4 +1,5 @@
--- What writing does to a glyph: another id, and nothing else of it changes (01, "Records over a text": "Written glyphs copy words 1 to 3 of the one replaced").
+-- What writing does to a glyph: another id, and nothing else of it changes (01, "Records over a text": "Written glyphs copy words 1 to 3 of the one
+-- replaced").
 use Prim.Native.Nat.{ℕ}
 use Rattle.glyph.specs.declared.Glyph.{Glyph}
 

@@ -1,4 +1,5 @@
--- The code's side: the search for the base made once, when it is needed, and what is then known of the base. Not a rule of 01; Laws.antt shows that it serves the rule.
+-- The code's side: the search for the base made once, when it is needed, and what is then known of the base. Not a rule of 01; Laws.antt shows that
+-- it serves the rule.
 use mathlib.Core.Bool.{Bool, true, false, not, cond, _&&_}
 use Rattle.glyph.specs.declared.Glyph.{Glyph}
 use Rattle.ligature.specs.declared.Ligbase.{Ligbase}

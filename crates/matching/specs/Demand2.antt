@@ -25,17 +25,20 @@ Fails behind v p extent = StopsBack v p extent ⊎ RunsOutBack v p extent
 -- from p on, the values take the places
 pub data Accepts {X : Type 0} (way : Way) (v : X → ℕ → Verdict) (ok : ℕ → Bool) : ℕ → List X → List ℕ → Type 0 where
   noValue : {p : ℕ} → Accepts way v ok p [] []
-  more : {p : ℕ} {x : X} {q : ℕ} {xs : List X} {qs : List ℕ} → Takes way (v x) p q → ok q ≡ true → Accepts way v ok (past way q) xs qs → Accepts way v ok p (x ∷ xs) (q ∷ qs)
+  more : {p : ℕ} {x : X} {q : ℕ} {xs : List X} {qs : List ℕ} → Takes way (v x) p q → ok q ≡ true → Accepts way v ok (past way q) xs qs
+      → Accepts way v ok p (x ∷ xs) (q ∷ qs)
 
 -- the first of the values take places, and the walk for the next fails with this extent: refusal 4
 pub data Loses {X : Type 0} (way : Way) (v : X → ℕ → Verdict) (ok : ℕ → Bool) : ℕ → List X → ℕ → Type 0 where
   fails : {p : ℕ} {x : X} {extent : ℕ} {xs : List X} → Fails way (v x) p extent → Loses way v ok p (x ∷ xs) extent
-  fails-later : {p : ℕ} {x : X} {q extent : ℕ} {xs : List X} → Takes way (v x) p q → ok q ≡ true → Loses way v ok (past way q) xs extent → Loses way v ok p (x ∷ xs) extent
+  fails-later : {p : ℕ} {x : X} {q extent : ℕ} {xs : List X} → Takes way (v x) p q → ok q ≡ true → Loses way v ok (past way q) xs extent
+      → Loses way v ok p (x ∷ xs) extent
 
 -- the first of the values take places, and the rule turns the next one's down: refusal 5
 pub data TurnsDown {X : Type 0} (way : Way) (v : X → ℕ → Verdict) (ok : ℕ → Bool) : ℕ → List X → Type 0 where
   turned : {p : ℕ} {x : X} {q : ℕ} {xs : List X} → Takes way (v x) p q → ok q ≡ false → TurnsDown way v ok p (x ∷ xs)
-  turned-later : {p : ℕ} {x : X} {q : ℕ} {xs : List X} → Takes way (v x) p q → ok q ≡ true → TurnsDown way v ok (past way q) xs → TurnsDown way v ok p (x ∷ xs)
+  turned-later : {p : ℕ} {x : X} {q : ℕ} {xs : List X} → Takes way (v x) p q → ok q ≡ true → TurnsDown way v ok (past way q) xs
+      → TurnsDown way v ok p (x ∷ xs)
 
 -- each answer is given exactly when it is due, and only one place list is due
 pub record Demand2 {X : Type 0} (way : Way) (v : X → ℕ → Verdict) (ok : ℕ → Bool) (p : ℕ) (values : List X) : Type 0 where

@@ -31,7 +31,8 @@ walk-answers : (way : Way) (v : ℕ → Verdict) (p : ℕ) → walkBy way v p �
 walk-answers (ahead len) v p e = walk-means v len p Refused .0 e
 walk-answers behind v p e = back-means v p Refused .0 e
 
-walk-fails : (way : Way) (v : ℕ → Verdict) (p extent : ℕ) → Fails way v p extent → (walkBy way v p ≡ Stopped extent) ⊎ (walkBy way v p ≡ RanOut extent)
+walk-fails : (way : Way) (v : ℕ → Verdict) (p extent : ℕ) → Fails way v p extent
+    → (walkBy way v p ≡ Stopped extent) ⊎ (walkBy way v p ≡ RanOut extent)
 walk-fails (ahead len) v p extent (inl f) = inl (walk-stopped v len p extent .1 f)
 walk-fails (ahead len) v p extent (inr f) = inr (walk-ran-out v len p extent .1 f)
 walk-fails behind v p extent (inl f) = inl (back-stopped v p extent .1 f)
@@ -45,12 +46,14 @@ module _ {X : Type 0} (way : Way) (v : X → ℕ → Verdict) (ok : ℕ → Bool
   Says p xs unlike = TurnsDown way v ok p xs
 
   -- a place taken before
-  says-more : (p : ℕ) (x : X) (q : ℕ) (xs : List X) (o : Outcome) → Takes way (v x) p q → ok q ≡ true → Says (past way q) xs o → Says p (x ∷ xs) (having (q ∷ []) o)
+  says-more : (p : ℕ) (x : X) (q : ℕ) (xs : List X) (o : Outcome) → Takes way (v x) p q → ok q ≡ true → Says (past way q) xs o
+      → Says p (x ∷ xs) (having (q ∷ []) o)
   says-more p x q xs (taken places) t k s = more t k s
   says-more p x q xs (lost extent) t k s = fails-later t k s
   says-more p x q xs unlike t k s = turned-later t k s
 
-  by-rule : (p : ℕ) (x : X) (q : ℕ) (xs : List X) (b : Bool) (o : Outcome) → ok q ≡ b → Takes way (v x) p q → Says (past way q) xs o → Says p (x ∷ xs) (cond b (having (q ∷ []) o) unlike)
+  by-rule : (p : ℕ) (x : X) (q : ℕ) (xs : List X) (b : Bool) (o : Outcome) → ok q ≡ b → Takes way (v x) p q → Says (past way q) xs o
+      → Says p (x ∷ xs) (cond b (having (q ∷ []) o) unlike)
   by-rule p x q xs true o k t s = says-more p x q xs o t k s
   by-rule p x q xs false o k t s = turned t k
 
@@ -74,7 +77,8 @@ module _ {X : Type 0} (way : Way) (v : X → ℕ → Verdict) (ok : ℕ → Bool
       ap (λ (w : Walked). onWalked ok w (λ r. takes way v ok (past way r) xs)) (walk-takes way (v x) p q .1 t)
       ∙ ap (λ (b : Bool). cond b (having (q ∷ []) (takes way v ok (past way q) xs)) unlike) k
 
-  stops-here : (p : ℕ) (x : X) (extent : ℕ) (xs : List X) → (walkBy way (v x) p ≡ Stopped extent) ⊎ (walkBy way (v x) p ≡ RanOut extent) → takes way v ok p (x ∷ xs) ≡ lost extent
+  stops-here : (p : ℕ) (x : X) (extent : ℕ) (xs : List X) → (walkBy way (v x) p ≡ Stopped extent) ⊎ (walkBy way (v x) p ≡ RanOut extent)
+      → takes way v ok p (x ∷ xs) ≡ lost extent
   unfolding takes
   stops-here p x extent xs (inl e) = ap (λ (w : Walked). onWalked ok w (λ r. takes way v ok (past way r) xs)) e
   stops-here p x extent xs (inr e) = ap (λ (w : Walked). onWalked ok w (λ r. takes way v ok (past way r) xs)) e

@@ -43,7 +43,8 @@ module _ (way : Way) where
     toldBy (RanOut extent) rest = ContextMatch.Lost extent
     toldBy Refused rest = ContextMatch.Lost 0
 
-    by-walk : (p : ℕ) (w : Walked) (rest : List ℕ) → contextTold way p (onWalked anywhere w (λ q. takes way v anywhere (past way q) rest)) ≡ toldBy w rest
+    by-walk : (p : ℕ) (w : Walked) (rest : List ℕ) → contextTold way p (onWalked anywhere w (λ q. takes way v anywhere (past way q) rest))
+        ≡ toldBy w rest
     by-walk p (Found q) rest = told-rest p q (takes way v anywhere (past way q) rest)
     by-walk p (Stopped extent) rest = refl
     by-walk p (RanOut extent) rest = refl
@@ -127,7 +128,8 @@ module _ (gs : List Glyph) (v : ℕ → ℕ → Verdict) (ok : ℕ → Bool) (id
   abbrev from : ℕ → List ℕ → Outcome
   from = takes (ahead (length gs)) v ok
 
-  pub going-none : idx < length gs → getD gs idx blank .count ≤ 255 → Going gs v ok idx values (slotted (idx ∷ [])) (getD gs idx blank .count) (idx + 1) 0
+  pub going-none : idx < length gs → getD gs idx blank .count ≤ 255 → Going gs v ok idx values (slotted (idx ∷ [])) (getD gs idx blank .count)
+      (idx + 1) 0
   unfolding ligated reached
   going-none h b = record {
     qs = [];

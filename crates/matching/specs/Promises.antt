@@ -25,7 +25,8 @@ inputSuccess text idx places =
     replies 0 (reached (ahead (length text)) (idx + 1) places ∷ totalOf text idx places ∷ length (idx ∷ places) ∷ idx ∷ places)
 
 -- an answer of input matching, for a judge and the ligature rule
-pub record InputPromise {X : Type 0} (text : List Glyph) (idx : ℕ) (values : List X) (v : X → ℕ → Verdict) (rule : ℕ → Bool) (answer : InputMatch) : Type 0 where
+pub record InputPromise {X : Type 0} (text : List Glyph) (idx : ℕ) (values : List X) (v : X → ℕ → Verdict) (rule : ℕ → Bool)
+    (answer : InputMatch) : Type 0 where
   pub accepted : (places : List ℕ) → (inputReply answer ≡ inputSuccess text idx places) ↔ Accepts (ahead (length text)) v rule (idx + 1) values places
   pub no-others : (places others : List ℕ) → Accepts (ahead (length text)) v rule (idx + 1) values places
       → Accepts (ahead (length text)) v rule (idx + 1) values others → places ≡ others

@@ -33,7 +33,8 @@ raisedBy start unlike = unlike
 
 -- ---- judges and rules that agree
 
-module _ {X : Type 0} (way : Way) (u v : X → ℕ → Verdict) (ok ok′ : ℕ → Bool) (same : (x : X) (k : ℕ) → u x k ≡ v x k) (same′ : (k : ℕ) → ok k ≡ ok′ k) where
+module _ {X : Type 0} (way : Way) (u v : X → ℕ → Verdict) (ok ok′ : ℕ → Bool) (same : (x : X) (k : ℕ) → u x k ≡ v x k)
+    (same′ : (k : ℕ) → ok k ≡ ok′ k) where
   walk-by-same : (way : Way) (x : X) (p : ℕ) → walkBy way (u x) p ≡ walkBy way (v x) p
   walk-by-same (ahead len) x p = walk-same (u x) (v x) len p (λ k l g. same x k)
   walk-by-same behind x p = back-same (u x) (v x) p (λ k l. same x k)
@@ -49,7 +50,8 @@ module _ {X : Type 0} (way : Way) (u v : X → ℕ → Verdict) (ok ok′ : ℕ 
   takes-same p [] = refl
   takes-same p (x ∷ xs) =
       ap (λ (w : Walked). onWalked ok w (λ q. takes way u ok (past way q) xs)) (walk-by-same way x p)
-      ∙ follow-same (walkBy way (v x) p) (λ q. takes way u ok (past way q) xs) (λ q. takes way v ok′ (past way q) xs) (λ q. takes-same (past way q) xs)
+      ∙ follow-same (walkBy way (v x) p) (λ q. takes way u ok (past way q) xs) (λ q. takes way v ok′ (past way q) xs)
+      (λ q. takes-same (past way q) xs)
 
 -- ---- any judge, any rule
 
@@ -66,11 +68,13 @@ module _ {X : Type 0} (v : X → ℕ → Verdict) (ok : ℕ → Bool) (start len
   abbrev ok′ : ℕ → Bool
   ok′ i = ok (start + i)
 
-  by-rule : (q : ℕ) (b : Bool) (o o′ : Outcome) → o ≡ raisedBy start o′ → cond b (having ((start + q) ∷ []) o) unlike ≡ raisedBy start (cond b (having (q ∷ []) o′) unlike)
+  by-rule : (q : ℕ) (b : Bool) (o o′ : Outcome) → o ≡ raisedBy start o′ → cond b (having ((start + q) ∷ []) o) unlike
+      ≡ raisedBy start (cond b (having (q ∷ []) o′) unlike)
   by-rule q true o o′ e = ap (having ((start + q) ∷ [])) e ∙ having-raised start q o′
   by-rule q false o o′ e = refl
 
-  by-walk : (w : Walked) (f g : ℕ → Outcome) → (w ≡ Refused → ⊥) → ((q : ℕ) → f (start + q) ≡ raisedBy start (g q)) → onWalked ok (raised start w) f ≡ raisedBy start (onWalked ok′ w g)
+  by-walk : (w : Walked) (f g : ℕ → Outcome) → (w ≡ Refused → ⊥) → ((q : ℕ) → f (start + q) ≡ raisedBy start (g q))
+      → onWalked ok (raised start w) f ≡ raisedBy start (onWalked ok′ w g)
   by-walk (Found q) f g n e = by-rule q (ok (start + q)) (f (start + q)) (g q) (e q)
   by-walk (Stopped extent) f g n e = refl
   by-walk (RanOut extent) f g n e = refl
@@ -87,7 +91,8 @@ module _ {X : Type 0} (v : X → ℕ → Verdict) (ok : ℕ → Bool) (start len
       let on : start + q + 1 ≡ start + (q + 1) = omega arith in
       ap (λ (n : ℕ). takes (ahead (start + len)) v ok n xs) on ∙ takes-shift (q + 1) xs)
 
-pub reached-shift : (start len p : ℕ) (qs : List ℕ) → reached (ahead (start + len)) (start + p) (raisedAll start qs) ≡ start + reached (ahead len) p qs
+pub reached-shift : (start len p : ℕ) (qs : List ℕ) → reached (ahead (start + len)) (start + p) (raisedAll start qs)
+    ≡ start + reached (ahead len) p qs
 unfolding reached
 reached-shift start len p [] = refl
 reached-shift start len p (q ∷ qs) =
@@ -103,10 +108,12 @@ module _ (gs : List Glyph) (start : ℕ) where
   first-shift : getD (drop start gs) 0 blank ≡ getD gs start blank
   first-shift = let e : start + 0 ≡ start = omega arith in glyph-shift 0 ∙ ap (λ (n : ℕ). getD gs n blank) e
 
-  judge-shift : {X : Type 0} (m : Matcher) (sets : List ℕ) (test : X → Asked) (syllable : ℕ) (x : X) (k : ℕ) → judge m sets test syllable gs x (start + k) ≡ judge m sets test syllable (drop start gs) x k
+  judge-shift : {X : Type 0} (m : Matcher) (sets : List ℕ) (test : X → Asked) (syllable : ℕ) (x : X) (k : ℕ)
+      → judge m sets test syllable gs x (start + k) ≡ judge m sets test syllable (drop start gs) x k
   judge-shift m sets test syllable x k = ap (verdict m (test x) syllable sets) (sym (glyph-shift k))
 
-  joins-shift : (m : Matcher) (sets : List ℕ) (searched : List Glyph) (k : ℕ) → joins m sets searched gs start (start + k) ≡ joins m sets searched (drop start gs) 0 k
+  joins-shift : (m : Matcher) (sets : List ℕ) (searched : List Glyph) (k : ℕ)
+      → joins m sets searched gs start (start + k) ≡ joins m sets searched (drop start gs) 0 k
   joins-shift m sets searched k =
       ap₂ (λ (first this : Glyph). mayJoin first this (baseSkips m sets (first .lig) searched)) (sym first-shift) (sym (glyph-shift k))
 
@@ -123,7 +130,8 @@ module _ (gs : List Glyph) (start : ℕ) where
 
   module _ {X : Type 0} (lookup : Terms) (sets : List ℕ) (test : X → Asked) (h : start ≤ length gs) where
     -- input from the cursor `start`
-    pub input-shift : (done : List Glyph) (values : List X) → inputOn lookup sets test done gs start values ≡ raisedBy start (inputOn lookup sets test done (drop start gs) 0 values)
+    pub input-shift : (done : List Glyph) (values : List X) → inputOn lookup sets test done gs start values
+        ≡ raisedBy start (inputOn lookup sets test done (drop start gs) 0 values)
     unfolding inputOn inputBy
     input-shift done values =
         let m = inputMatcherOf lookup in
@@ -142,7 +150,8 @@ module _ (gs : List Glyph) (start : ℕ) where
         (λ k. joins-shift m sets searched k) 1 values)
 
     -- lookahead from `start`
-    pub ahead-shift : (syllable : ℕ) (values : List X) → aheadOn lookup sets test gs start syllable values ≡ raisedBy start (aheadOn lookup sets test (drop start gs) 0 syllable values)
+    pub ahead-shift : (syllable : ℕ) (values : List X) → aheadOn lookup sets test gs start syllable values
+        ≡ raisedBy start (aheadOn lookup sets test (drop start gs) 0 syllable values)
     unfolding aheadOn
     ahead-shift syllable values =
         let m = contextMatcherOf lookup in
@@ -153,4 +162,5 @@ module _ (gs : List Glyph) (start : ℕ) where
         ap₂ (λ (n p : ℕ). takes (ahead n) v anywhere p values) (whole h) (sym e)
         ∙ takes-shift v anywhere start (length part) 0 values
         ∙ ap (raisedBy start)
-        (takes-same (ahead (length part)) (λ x k. v x (start + k)) w anywhere anywhere (λ x k. judge-shift m sets test syllable x k) (λ k. refl) 0 values)
+        (takes-same (ahead (length part)) (λ x k. v x (start + k)) w anywhere anywhere (λ x k. judge-shift m sets test syllable x k)
+        (λ k. refl) 0 values)

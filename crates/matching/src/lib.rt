@@ -79,7 +79,9 @@ pub fn input(
     values: &[u32],
 ) -> InputMatch
     requires { ⌜ InputReady (glyphsOf (now text)) idx (now values) ⌝ }
-    ensures { λ r. ⌜ r ≡ inputTold (glyphsOf (now (text .entry))) idx (inputOn lookup (now (sets .entry)) (valueBy test (now (lists .entry))) (glyphsOf (now (before .entry))) (glyphsOf (now (text .entry))) idx (now (values .entry))) ⌝ }
+    ensures { λ r. ⌜ r ≡ inputTold (glyphsOf (now (text .entry))) idx
+        (inputOn lookup (now (sets .entry)) (valueBy test (now (lists .entry))) (glyphsOf (now (before .entry))) (glyphsOf (now (text .entry))) idx
+        (now (values .entry))) ⌝ }
 {
     let settings = lookup.settings;
     let table = settings.table;
@@ -127,8 +129,9 @@ pub fn searched_row(table: Table, before: &[u32]) -> &[u32]
     }
 }
 
-// Input with a matcher. The positions are written to slots that are lent, so that they are handed on only once. The forward walk's loop stands here once
-// more, for speed: one loop goes over all values, where a walk for each would be a call for each. The laws of a turn are the walk's (walk/Steps).
+// Input with a matcher. The positions are written to slots that are lent, so that they are handed on only once. The forward walk's loop stands here
+// once more, for speed: one loop goes over all values, where a walk for each would be a call for each. The laws of a turn are the walk's
+// (walk/Steps).
 pub fn take_input(
     searched: &[u32],
     text: &[u32],
@@ -141,7 +144,10 @@ pub fn take_input(
     positions: &mut [u16; 64],
 ) -> InputAnswer
     requires { ⌜ InputReady (glyphsOf (now text)) idx (now values) × (now positions ≡ slotted []) ⌝ }
-    ensures { λ r. ⌜ madeOf r (length (now (values .entry))) (now (positions .exit)) ≡ inputTold (glyphsOf (now (text .entry))) idx (inputBy m (now (sets .entry)) (valueBy test (now (lists .entry))) (glyphsOf (now (searched .entry))) (glyphsOf (now (text .entry))) idx (now (values .entry))) ⌝ }
+    ensures { λ r. ⌜ madeOf r (length (now (values .entry))) (now (positions .exit))
+        ≡ inputTold (glyphsOf (now (text .entry))) idx
+        (inputBy m (now (sets .entry)) (valueBy test (now (lists .entry))) (glyphsOf (now (searched .entry))) (glyphsOf (now (text .entry))) idx
+        (now (values .entry))) ⌝ }
 {
     let len = glyph::count(text);
     let first = glyph::read(text, idx);

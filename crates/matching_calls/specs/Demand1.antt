@@ -1,5 +1,6 @@
--- Demand 1 of the three calls, in 01's numbers (01, "When the desk says no"): refused by 1, 2, 3 or 6 exactly when that line refuses and no line before it does, and nothing else is
--- refused: what no line refuses is matched, or lost by 4, or by 5 (which of these, and when: Promises). No slot is filled but by a match.
+-- Demand 1 of the three calls, in 01's numbers (01, "When the desk says no"): refused by 1, 2, 3 or 6 exactly when that line refuses and no line
+-- before it does, and nothing else is refused: what no line refuses is matched, or lost by 4, or by 5 (which of these, and when: Promises). No slot
+-- is filled but by a match.
 use Prim.Native.Nat.{ℕ}
 use mathlib.Core.Path.{_≡_, refl, sym, ap, _∙_}
 use mathlib.Core.List.{List, [], _∷_}
@@ -80,7 +81,8 @@ module _ (text : List Glyph) (idx : ℕ) where
   input-tells Fit.Fits unlike n not5 = (λ e. absurd (not5 (sym (ap numberIn e))), λ e. absurd (Option·none-ne-some n e))
 
   input-numbers : (fit : Fit) (o : Outcome)
-      → (fit ≡ Fit.Fits) ↔ ((inputReply (input fit o) .number ≡ 0) ⊎ ((inputReply (input fit o) .number ≡ 4) ⊎ (inputReply (input fit o) .number ≡ 5)))
+      → (fit ≡ Fit.Fits) ↔ ((inputReply (input fit o) .number ≡ 0)
+      ⊎ ((inputReply (input fit o) .number ≡ 4) ⊎ (inputReply (input fit o) .number ≡ 5)))
   input-numbers (Fit.Refused w) o = (
     λ e. absurd (not-fits w e),
     ⊎-elim (λ e. absurd (apart w 0 refl e)) (⊎-elim (λ e. absurd (apart w 4 refl e)) (λ e. absurd (apart w 5 refl e))),
@@ -89,7 +91,8 @@ module _ (text : List Glyph) (idx : ℕ) where
   input-numbers Fit.Fits (lost extent) = (λ e. inr (inl refl), λ s. refl)
   input-numbers Fit.Fits unlike = (λ e. inr (inr refl), λ s. refl)
 
-  input-empty : (fit : Fit) (o : Outcome) → (inputReply (input fit o) .number ≡ 0 → ⊥) → (input fit o .count ≡ 0) × (input fit o .positions ≡ slotted [])
+  input-empty : (fit : Fit) (o : Outcome) → (inputReply (input fit o) .number ≡ 0 → ⊥)
+      → (input fit o .count ≡ 0) × (input fit o .positions ≡ slotted [])
   input-empty (Fit.Refused w) o n = (refl, refl)
   input-empty Fit.Fits (taken places) n = absurd (n refl)
   input-empty Fit.Fits (lost extent) n = (refl, refl)
@@ -107,7 +110,8 @@ module _ (way : Way) (p : ℕ) where
   context-tells Fit.Fits (lost extent) n = (λ e. absurd (has-values e), λ e. absurd (Option·none-ne-some n e))
   context-tells Fit.Fits unlike n = (λ e. absurd (has-values e), λ e. absurd (Option·none-ne-some n e))
 
-  context-numbers : (fit : Fit) (o : Outcome) → (fit ≡ Fit.Fits) ↔ ((contextReply (context fit o) .number ≡ 0) ⊎ (contextReply (context fit o) .number ≡ 4))
+  context-numbers : (fit : Fit) (o : Outcome) → (fit ≡ Fit.Fits)
+      ↔ ((contextReply (context fit o) .number ≡ 0) ⊎ (contextReply (context fit o) .number ≡ 4))
   context-numbers (Fit.Refused w) o = (λ e. absurd (not-fits w e), ⊎-elim (λ e. absurd (apart w 0 refl e)) (λ e. absurd (apart w 4 refl e)))
   context-numbers Fit.Fits (taken places) = (λ e. inl refl, λ s. refl)
   context-numbers Fit.Fits (lost extent) = (λ e. inr refl, λ s. refl)
@@ -115,7 +119,8 @@ module _ (way : Way) (p : ℕ) where
 
 -- ---- the calls keep it
 
-module _ {X : Type 0} (done : List ℕ) (d : ℕ) (coming : List ℕ) (len idx : ℕ) (lookup : Terms) (sets : List ℕ) (test : X → Asked) (values : List X) where
+module _ {X : Type 0} (done : List ℕ) (d : ℕ) (coming : List ℕ) (len idx : ℕ) (lookup : Terms) (sets : List ℕ) (test : X → Asked)
+    (values : List X) where
   abbrev n : ℕ
   n = length values
 
@@ -131,7 +136,8 @@ module _ {X : Type 0} (done : List ℕ) (d : ℕ) (coming : List ℕ) (len idx :
         empty = input-empty text idx fit o;
       }
 
-  pub ahead-demand-1 : (start : ℕ) → AheadRefusals done d coming len idx start sets (length values) (aheadOf done d coming len idx start lookup sets test values)
+  pub ahead-demand-1 : (start : ℕ) → AheadRefusals done d coming len idx start sets (length values)
+      (aheadOf done d coming len idx start lookup sets test values)
   unfolding aheadOf
   ahead-demand-1 start =
       let text = take len (glyphsOf coming) in

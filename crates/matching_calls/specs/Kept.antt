@@ -95,7 +95,8 @@ module _ {X : Type 0} (way : Way) (p : ℕ) (values : List X) (v : X → ℕ →
   led (lost extent) place e r = let z : _≡_ {A = ℕ} 4 0 = ap (λ (r : Reply). r .number) r in absurd (omega arith)
   led unlike place e r = let z : _≡_ {A = ℕ} 4 0 = ap (λ (r : Reply). r .number) r in absurd (omega arith)
 
-  lost-by : (o : Outcome) (extent : ℕ) → outcomeBy ≡ o → contextReply (contextTold way p o) ≡ replies 4 (extent ∷ []) → Loses way v anywhere p values extent
+  lost-by : (o : Outcome) (extent : ℕ) → outcomeBy ≡ o → contextReply (contextTold way p o) ≡ replies 4 (extent ∷ [])
+      → Loses way v anywhere p values extent
   lost-by (taken places) extent e r = let z : _≡_ {A = ℕ} 0 4 = ap (λ (r : Reply). r .number) r in absurd (omega arith)
   lost-by (lost x) extent e r =
       let same = ap (λ (r : Reply). r .values) r in
@@ -109,7 +110,8 @@ module _ {X : Type 0} (way : Way) (p : ℕ) (values : List X) (v : X → ℕ →
       record {
         accepted = λ place. (
           led outcomeBy place refl,
-          λ l. ap (λ (o : Outcome). contextReply (contextTold way p o)) (d .accepted (l .places) .1 (l .accepts)) ∙ ap (λ (n : ℕ). replies 0 (n ∷ [])) (l .leads),
+          λ l. ap (λ (o : Outcome). contextReply (contextTold way p o)) (d .accepted (l .places) .1 (l .accepts))
+              ∙ ap (λ (n : ℕ). replies 0 (n ∷ [])) (l .leads),
         );
         no-others = d .no-others;
         refused4 = λ extent. (
@@ -134,7 +136,8 @@ module _ {X : Type 0} (lookup : Terms) (sets : List ℕ) (test : X → Asked) wh
   ahead-takes coming start syllable values = refl
 
   pub back-takes : (row : List Glyph) (syllable : ℕ) (values : List X)
-      → backOn lookup sets test row syllable values ≡ takes behind (judge (contextMatcherOf lookup) sets test syllable row) anywhere (length row) values
+      → backOn lookup sets test row syllable values ≡ takes behind (judge (contextMatcherOf lookup) sets test syllable row) anywhere
+      (length row) values
   unfolding backOn
   back-takes row syllable values = refl
 

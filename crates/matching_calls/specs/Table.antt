@@ -1,5 +1,5 @@
--- The refusals of the three calls as 01's table has them ("When the desk says no"): the code's tests tell the lines 1, 2, 3 and 6, so a call is refused by the first line that
--- refuses, and let through exactly when each lets pass (Order). In the numbers of the calls' replies: Demand1.
+-- The refusals of the three calls as 01's table has them ("When the desk says no"): the code's tests tell the lines 1, 2, 3 and 6, so a call is
+-- refused by the first line that refuses, and let through exactly when each lets pass (Order). In the numbers of the calls' replies: Demand1.
 use mathlib.Core.Path.{_≡_, refl, sym, ap, _∙_}
 use mathlib.Core.Bool.{Bool, true, false, cond, _||_}
 use mathlib.Core.List.{List, [], _∷_}
@@ -47,7 +47,8 @@ module _ (done : List ℕ) (d : ℕ) (coming : List ℕ) (len : ℕ) (sets : Lis
 
 -- ---- the tests, one after another
 
-three : (a b c : Bool) → fitNumber (cond a (Fit.Refused Shape) (cond b (Fit.Refused Cursor) (cond c (Fit.Refused Values) Fit.Fits))) ≡ cond a (some 1) (cond b (some 2) (cond c (some 3) none))
+three : (a b c : Bool) → fitNumber (cond a (Fit.Refused Shape) (cond b (Fit.Refused Cursor) (cond c (Fit.Refused Values) Fit.Fits)))
+    ≡ cond a (some 1) (cond b (some 2) (cond c (some 3) none))
 three true b c = refl
 three false true c = refl
 three false false true = refl
@@ -101,7 +102,8 @@ module _ (done : List ℕ) (d : ℕ) (coming : List ℕ) (len idx : ℕ) (sets :
   unfolding inputFit firstAnswer
   input-first = three bad (leb len idx) (leb slots values)
 
-  pub input-refused : (n : ℕ) → (fitNumber (inputFit done d coming len idx sets values) ≡ some n) ↔ RefusedBy n (inputLines done d coming len idx sets values)
+  pub input-refused : (n : ℕ) → (fitNumber (inputFit done d coming len idx sets values) ≡ some n)
+      ↔ RefusedBy n (inputLines done d coming len idx sets values)
   input-refused = refused-by (inputFit done d coming len idx sets values) inputTests input-first
 
   pub input-fits : (inputFit done d coming len idx sets values ≡ Fit.Fits) ↔ InputAcceptable done d coming len idx sets values
@@ -118,7 +120,8 @@ module _ (done : List ℕ) (d : ℕ) (coming : List ℕ) (len idx : ℕ) (sets :
   unfolding backFit firstAnswer
   back-first = three bad (leb len idx) (ltb slots values)
 
-  pub back-refused : (n : ℕ) → (fitNumber (backFit done d coming len idx sets values) ≡ some n) ↔ RefusedBy n (backLines done d coming len idx sets values)
+  pub back-refused : (n : ℕ) → (fitNumber (backFit done d coming len idx sets values) ≡ some n)
+      ↔ RefusedBy n (backLines done d coming len idx sets values)
   back-refused = refused-by (backFit done d coming len idx sets values) backTests back-first
 
   pub back-fits : (backFit done d coming len idx sets values ≡ Fit.Fits) ↔ BackAcceptable done d coming len idx sets values

@@ -55,7 +55,8 @@ unfolding ligated
 ligated-most gs c [] = omega arith
 ligated-most gs c (q ∷ qs) = let a = c q .part in let b = ligated-most gs c qs in omega arith
 
-module _ {X : Type 0} (done : List ℕ) (d : ℕ) (coming : List ℕ) (len idx : ℕ) (lookup : Terms) (sets : List ℕ) (test : X → Asked) (values : List X) where
+module _ {X : Type 0} (done : List ℕ) (d : ℕ) (coming : List ℕ) (len idx : ℕ) (lookup : Terms) (sets : List ℕ) (test : X → Asked)
+    (values : List X) where
   abbrev text : List Glyph
   text = take len (glyphsOf coming)
 
@@ -71,7 +72,8 @@ module _ {X : Type 0} (done : List ℕ) (d : ℕ) (coming : List ℕ) (len idx :
   most-by unlike end total few e m = let z : _≡_ {A = ℕ} 0 1 = cc in absurd (omega arith)
 
   fit-by : (f : Fit) (end total : ℕ) → inputFit done d coming len idx sets (length values) ≡ f
-      → inputUnless f (inputTold text idx (inputOn lookup sets test (take d (glyphsOf done)) text idx values)) .answer ≡ InputAnswer.Matched end total → total ≤ 16320
+      → inputUnless f (inputTold text idx (inputOn lookup sets test (take d (glyphsOf done)) text idx values)) .answer ≡ InputAnswer.Matched end total
+      → total ≤ 16320
   fit-by Fit.Fits end total e m =
       let few = input-fits done d coming len idx sets (length values) .0 e .few in
       most-by (inputOn lookup sets test (take d (glyphsOf done)) text idx values) end total few refl m

@@ -33,7 +33,8 @@ pub fn match_input(
     test: Test,
     values: &[u32],
 ) -> InputMatch
-    ensures { λ r. ⌜ r ≡ inputOf (now (done .entry)) d (now (coming .entry)) len idx lookup (now (sets .entry)) (valueBy test []) (now (values .entry)) ⌝ }
+    ensures { λ r. ⌜ r ≡ inputOf (now (done .entry)) d (now (coming .entry)) len idx lookup (now (sets .entry)) (valueBy test [])
+        (now (values .entry)) ⌝ }
 {
     match input_fit(done, d, coming, len, idx, sets, values.len()) {
         Fit::Refused(why) => return refuse(InputAnswer::Refused(why)),
@@ -78,7 +79,8 @@ pub fn match_lookahead(
     test: Test,
     values: &[u32],
 ) -> ContextMatch
-    ensures { λ r. ⌜ r ≡ aheadOf (now (done .entry)) d (now (coming .entry)) len idx start lookup (now (sets .entry)) (valueBy test []) (now (values .entry)) ⌝ }
+    ensures { λ r. ⌜ r ≡ aheadOf (now (done .entry)) d (now (coming .entry)) len idx start lookup (now (sets .entry)) (valueBy test [])
+        (now (values .entry)) ⌝ }
 {
     match ahead_fit(done, d, coming, len, idx, start, sets, values.len()) {
         Fit::Refused(why) => return ContextMatch::Refused(why),
@@ -111,7 +113,8 @@ pub fn match_backtrack<'a>(
     test: Test,
     values: &[u32],
 ) -> ContextMatch
-    ensures { λ r. ⌜ r ≡ backOf (now (done .entry)) d (now (coming .entry)) len idx lookup (now (sets .entry)) (valueBy test []) (now (values .entry)) ⌝ }
+    ensures { λ r. ⌜ r ≡ backOf (now (done .entry)) d (now (coming .entry)) len idx lookup (now (sets .entry)) (valueBy test [])
+        (now (values .entry)) ⌝ }
 {
     match back_fit(done, d, coming, len, idx, sets, values.len()) {
         Fit::Refused(why) => return ContextMatch::Refused(why),
@@ -187,7 +190,8 @@ fn back_fit(
 
 // The first line of 01's table that refuses, in its order: 1, 2, 3, 6.
 fn first_line(bad: bool, past: bool, many: bool, unbegun: bool) -> Fit
-    ensures { λ r. ⌜ r ≡ cond bad (Fit.Refused Shape) (cond past (Fit.Refused Cursor) (cond many (Fit.Refused Values) (cond unbegun (Fit.Refused Start) Fit.Fits))) ⌝ }
+    ensures { λ r. ⌜ r ≡ cond bad (Fit.Refused Shape)
+        (cond past (Fit.Refused Cursor) (cond many (Fit.Refused Values) (cond unbegun (Fit.Refused Start) Fit.Fits))) ⌝ }
 {
     if bad {
         return Fit::Refused(Refusal::Shape);

@@ -29,7 +29,9 @@ pub fn lookahead(
     values: &[u32],
 ) -> ContextMatch
     requires { ⌜ start ≤ length (glyphsOf (now text)) ⌝ }
-    ensures { λ r. ⌜ r ≡ contextTold (ahead (length (glyphsOf (now (text .entry))))) start (aheadOn lookup (now (sets .entry)) (valueBy test (now (lists .entry))) (glyphsOf (now (text .entry))) start syllable (now (values .entry))) ⌝ }
+    ensures { λ r. ⌜ r ≡ contextTold (ahead (length (glyphsOf (now (text .entry))))) start
+        (aheadOn lookup (now (sets .entry)) (valueBy test (now (lists .entry))) (glyphsOf (now (text .entry))) start syllable
+        (now (values .entry))) ⌝ }
 {
     let matcher = verdict::matcher_of(lookup.settings, true, lookup.mask, lookup.props);
     let onward = glyph::onward(text, start);
@@ -55,7 +57,8 @@ pub fn lookahead(
     ContextMatch::Matched(start + next)
 }
 
-// Backtrack, from the end of the backward row. The backward walk's loop stands here once more, for speed, as the forward one does in `matching::take_input`.
+// Backtrack, from the end of the backward row. The backward walk's loop stands here once more, for speed, as the forward one does in
+// `matching::take_input`.
 pub fn backtrack(
     row: &[u32],
     syllable: u8,
@@ -65,7 +68,8 @@ pub fn backtrack(
     lists: &[u16],
     values: &[u32],
 ) -> ContextMatch
-    ensures { λ r. ⌜ r ≡ contextTold behind (length (glyphsOf (now (row .entry)))) (backOn lookup (now (sets .entry)) (valueBy test (now (lists .entry))) (glyphsOf (now (row .entry))) syllable (now (values .entry))) ⌝ }
+    ensures { λ r. ⌜ r ≡ contextTold behind (length (glyphsOf (now (row .entry))))
+        (backOn lookup (now (sets .entry)) (valueBy test (now (lists .entry))) (glyphsOf (now (row .entry))) syllable (now (values .entry))) ⌝ }
 {
     let m = verdict::matcher_of(lookup.settings, true, lookup.mask, lookup.props);
     let mut place = glyph::count(row);

@@ -1,7 +1,7 @@
 -- How a chain matches at the cursor of a text (01, "Records over a text": a chain tests first id, input, lookahead, backtrack; port order 5).
 -- A chain's values are what they ask of a glyph; how a lookup's own values come to that is said in Deeds.antt.
--- The matchers are asked about the whole text, so that positions and end count from its first glyph; what is before the cursor is searched for a base,
--- and walked back over. A chain is tried with its own props, and the run's switches, mask and mark sets.
+-- The matchers are asked about the whole text, so that positions and end count from its first glyph; what is before the cursor is searched for a
+-- base, and walked back over. A chain is tried with its own props, and the run's switches, mask and mark sets.
 use mathlib.Core.Bool.{Bool, true, false, cond, _&&_}
 use mathlib.Core.List.{List, _∷_}
 use Prim.Native.Nat.{ℕ, _+_}
@@ -55,7 +55,8 @@ module _ (q : Terms) (sets : List ℕ) (t : Text) where
   -- lookahead starts at the input's end
   abbrev pub contextMatched : Chain Asked → List ℕ → Match
   contextMatched c places =
-      cond (isTaken (aheadAt (endAfter places) (c .lookahead)) && isTaken (backAt (c .backtrack))) (Matched (t .cursor ∷ places) (endAfter places)) Unmatched
+      cond (isTaken (aheadAt (endAfter places) (c .lookahead)) && isTaken (backAt (c .backtrack)))
+      (Matched (t .cursor ∷ places) (endAfter places)) Unmatched
 
   abbrev pub afterInput : Chain Asked → Outcome → Match
   afterInput c (taken places) = contextMatched c places

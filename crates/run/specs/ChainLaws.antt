@@ -1,4 +1,5 @@
--- A chain of at most 63 input values matches in the text, from the cursor on: at most 64 positions that rise, with the end after the last and in the text.
+-- A chain of at most 63 input values matches in the text, from the cursor on: at most 64 positions that rise, with the end after the last and in the
+-- text.
 -- The cursor is the first position and the others are the places that the input took, one for each of at most 63 values.
 use mathlib.Core.Path.{_≡_, refl, sym, ap, _∙_}
 use mathlib.Core.Bool.{Bool, true, false, cond, _&&_}
@@ -25,7 +26,8 @@ use Rattle.run.specs.Chain.{inputAt, aheadAt, backAt, endAfter, isTaken,
 
 -- accepted places rise to the end
 module _ {X : Type 0} {v : X → ℕ → Verdict} {ok : ℕ → Bool} where
-  places-rise : {len p : ℕ} {values : List X} {places : List ℕ} → Accepts (ahead len) v ok p values places → Rises p (reached (ahead len) p places) places
+  places-rise : {len p : ℕ} {values : List X} {places : List ℕ} → Accepts (ahead len) v ok p values places
+      → Rises p (reached (ahead len) p places) places
   unfolding reached
   places-rise noValue = rises.noPosition
   places-rise {len} (more {q = q} {qs = qs} t k a) =
@@ -57,7 +59,8 @@ module _ (q : Terms) (sets : List ℕ) (t : Text) (h : t .cursor < length (t .gl
       by true = f
       by false = tt
 
-  after-fitting : (c : Chain Asked) → length (c .input) ≤ mostInput → (o : Outcome) → inputAt q sets t (c .input) ≡ o → Fitting t (afterInput q sets t c o)
+  after-fitting : (c : Chain Asked) → length (c .input) ≤ mostInput → (o : Outcome) → inputAt q sets t (c .input) ≡ o
+      → Fitting t (afterInput q sets t c o)
   after-fitting c few (taken places) e = context-fitting c places (input-fitting (c .input) places few e)
   after-fitting c few (lost extent) e = tt
   after-fitting c few unlike e = tt

@@ -1,5 +1,5 @@
--- What lookups do is fair: kinds 1 and 2 leave the glyphs before the cursor, and a chain of a book that reads matches in the text. And a relation that
--- one replacement keeps is kept by what lookups do.
+-- What lookups do is fair: kinds 1 and 2 leave the glyphs before the cursor, and a chain of a book that reads matches in the text. And a relation
+-- that one replacement keeps is kept by what lookups do.
 use mathlib.Core.Path.{_≡_, refl}
 use mathlib.Core.Bool.{Bool, true, false, cond}
 use mathlib.Core.List.{List, [], _∷_, map}
@@ -56,7 +56,8 @@ unchanged-spares t h = (refl, omega arith)
 
 module _ (match : ℕ → Chain Asked → Text → Match) (write : ℕ → Glyph → Glyph) where
   -- any way to write; chains that match in the text
-  deed-fair : (found : Found) → ((props : ℕ) (c : Chain ℕ) → found ≡ Is (Kind3 props c) → (t : Text) → t .cursor < length (t .glyphs) → Fitting t (match props (idsOf c) t))
+  deed-fair : (found : Found) → ((props : ℕ) (c : Chain ℕ) → found ≡ Is (Kind3 props c) → (t : Text) → t .cursor < length (t .glyphs)
+      → Fitting t (match props (idsOf c) t))
       → FairDeed (deedBy match write found)
   unfolding deedBy
   deed-fair (Is (Kind1 props from to)) m = renames Sparing unchanged-spares (λ t why. tt) write (replaced-spares write) from to
@@ -90,7 +91,8 @@ pub record KeptByWriting (write : ℕ → Glyph → Glyph) (R : List Glyph → L
   pub on : (a b c : List Glyph) → R a b → R b c → R a c
   pub one : (ids : List ℕ) (t : Text) → t .cursor < length (t .glyphs) → R (t .glyphs) (replacedBy write ids t .glyphs)
 
-module _ (match : ℕ → Chain Asked → Text → Match) (write : ℕ → Glyph → Glyph) (R : List Glyph → List Glyph → Type 0) (kept : KeptByWriting write R) where
+module _ (match : ℕ → Chain Asked → Text → Match) (write : ℕ → Glyph → Glyph) (R : List Glyph → List Glyph → Type 0)
+    (kept : KeptByWriting write R) where
   deed-lasts : (found : Found) → LastingDeed R (deedBy match write found)
   unfolding deedBy
   deed-lasts (Is (Kind1 props from to)) = renames (RelatedMade R) (λ t h. kept .same (t .glyphs)) (λ t why. tt) write (kept .one) from to

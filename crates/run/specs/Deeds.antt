@@ -1,5 +1,5 @@
--- What each kind of lookup does at the cursor (01, "Records over a text"), and the rules of a run. Of the definitions of a run this one alone goes by the
--- kinds: a further kind is a line of `deedBy`. A record's position is in the text, so a glyph is at the cursor.
+-- What each kind of lookup does at the cursor (01, "Records over a text"), and the rules of a run. Of the definitions of a run this one alone goes by
+-- the kinds: a further kind is a line of `deedBy`. A record's position is in the text, so a glyph is at the cursor.
 use mathlib.Core.Bool.{Bool, cond}
 use mathlib.Core.List.{List, [], _∷_, map}
 use Prim.Native.Nat.{ℕ}

@@ -1,4 +1,5 @@
--- A field that is copied into what is written: after any run the text has the values that it had, in their order, each any number of times or not at all.
+-- A field that is copied into what is written: after any run the text has the values that it had, in their order, each any number of times or not at
+-- all.
 -- So every glyph after has the value of one before, and values that never fell along the text never fall.
 use mathlib.Core.Path.{_≡_, refl, sym, _∙_}
 use mathlib.Core.List.{List, [], _∷_, _++_}
@@ -37,7 +38,8 @@ module _ {X : Type 0} (f : Glyph → X) where
   drawn-same (g ∷ gs) = again refl (past (drawn-same gs))
 
   -- what is drawn from h and b, where h has the value of g, and from b alone by `rest`
-  drawn-more : {g h : Glyph} {a b c : List Glyph} → f h ≡ f g → ((c : List Glyph) → Drawn f b c → Drawn f (g ∷ a) c) → Drawn f (h ∷ b) c → Drawn f (g ∷ a) c
+  drawn-more : {g h : Glyph} {a b c : List Glyph} → f h ≡ f g → ((c : List Glyph) → Drawn f b c → Drawn f (g ∷ a) c) → Drawn f (h ∷ b) c
+      → Drawn f (g ∷ a) c
   drawn-more e rest (past {glyphsAfter = glyphsAfter} q) = rest glyphsAfter q
   drawn-more e rest (again i q) = again (i ∙ e) (drawn-more e rest q)
 
@@ -51,7 +53,8 @@ module _ {X : Type 0} (f : Glyph → X) where
     copies-drawn [] g gs = past (drawn-same gs)
     copies-drawn (id ∷ ids) g gs = again (copied id g) (copies-drawn ids g gs)
 
-    at-drawn : (ids : List ℕ) (gs : List Glyph) (i : ℕ) → i < length gs → Drawn f gs (take i gs ++ copiesBy write ids (getD gs i blank) ++ drop (suc i) gs)
+    at-drawn : (ids : List ℕ) (gs : List Glyph) (i : ℕ) → i < length gs → Drawn f gs
+        (take i gs ++ copiesBy write ids (getD gs i blank) ++ drop (suc i) gs)
     at-drawn ids [] i h = let z : ⊥ = omega arith in absurd z
     at-drawn ids (g ∷ gs) zero h = copies-drawn ids g gs
     at-drawn ids (g ∷ gs) (suc i) h = again refl (past (at-drawn ids gs i (omega arith)))
@@ -71,7 +74,8 @@ pub record Has {X : Type 0} (f : Glyph → X) (gs : List Glyph) (x : X) : Type 0
   pub inside : place < length gs
   pub same : f (getD gs place blank) ≡ x
 
-pub drawn-has : {X : Type 0} (f : Glyph → X) {before glyphsAfter : List Glyph} → Drawn f before glyphsAfter → (i : ℕ) → i < length glyphsAfter → Has f before (f (getD glyphsAfter i blank))
+pub drawn-has : {X : Type 0} (f : Glyph → X) {before glyphsAfter : List Glyph} → Drawn f before glyphsAfter → (i : ℕ) → i < length glyphsAfter
+    → Has f before (f (getD glyphsAfter i blank))
 drawn-has f done i h = let z : ⊥ = omega arith in absurd z
 drawn-has f (past p) i h =
     let q = drawn-has f p i h in
@@ -98,7 +102,8 @@ falls-wider f low′ l (next g a r) = next {low = low′} g (omega arith) r
 falls-from : (f : Glyph → ℕ) (low : ℕ) (gs : List Glyph) → ((i : ℕ) → i < length gs → low ≤ f (getD gs i blank)) → Steady f gs → NeverFalls f low gs
 falls-from f low [] l s = noGlyph
 falls-from f low (g ∷ gs) l s =
-    next {low = low} g (l 0 (omega arith)) (falls-from f (f g) gs (λ i h. s 0 (suc i) (omega arith) (omega arith)) (λ i j a b. s (suc i) (suc j) (omega arith) (omega arith)))
+    next {low = low} g (l 0 (omega arith))
+    (falls-from f (f g) gs (λ i h. s 0 (suc i) (omega arith) (omega arith)) (λ i j a b. s (suc i) (suc j) (omega arith) (omega arith)))
 
 falls-low : (f : Glyph → ℕ) {low : ℕ} {gs : List Glyph} → NeverFalls f low gs → (i : ℕ) → i < length gs → low ≤ f (getD gs i blank)
 falls-low f noGlyph i h = let z : ⊥ = omega arith in absurd z
@@ -112,7 +117,8 @@ falls-steady f (next g l r) zero (suc j) a h = falls-low f r j (omega arith)
 falls-steady f (next g l r) (suc i) zero a h = let z : ⊥ = omega arith in absurd z
 falls-steady f (next g l r) (suc i) (suc j) a h = falls-steady f r i j (omega arith) (omega arith)
 
-pub drawn-never-falls : (f : Glyph → ℕ) {before glyphsAfter : List Glyph} (low : ℕ) → Drawn f before glyphsAfter → NeverFalls f low before → NeverFalls f low glyphsAfter
+pub drawn-never-falls : (f : Glyph → ℕ) {before glyphsAfter : List Glyph} (low : ℕ) → Drawn f before glyphsAfter → NeverFalls f low before
+    → NeverFalls f low glyphsAfter
 drawn-never-falls f low done n = n
 drawn-never-falls f low (past p) (next g a r) = drawn-never-falls f low p (falls-wider f low a r)
 drawn-never-falls f low (again {h = h} e p) (next g a r) =
@@ -130,7 +136,8 @@ module _ (match : ℕ → Chain Asked → Text → Match) (write : ℕ → Glyph
   glyphsAfter = runOn (rulesBy match write repair) book d rs positions end allowance t .run .text .glyphs
 
   pub run-drawn : {X : Type 0} (f : Glyph → X) → Copied f write → Drawn f (t .glyphs) glyphsAfter
-  run-drawn f c = run-relates (rulesBy match write repair) book (Drawn f) (writing-lasts match write (Drawn f) (drawn-written f write c)) d rs positions end allowance t
+  run-drawn f c = run-relates (rulesBy match write repair) book (Drawn f)
+      (writing-lasts match write (Drawn f) (drawn-written f write c)) d rs positions end allowance t
 
   pub run-has : {X : Type 0} (f : Glyph → X) → Copied f write → (i : ℕ) → i < length glyphsAfter → Has f (t .glyphs) (f (getD glyphsAfter i blank))
   run-has f c i h = drawn-has f (run-drawn f c) i h

@@ -1,4 +1,5 @@
--- What Full means (01, "Records over a text"): a lookup of kind 2 that was tried, at its id, would have passed the limit; and no other lookup ends a run so.
+-- What Full means (01, "Records over a text"): a lookup of kind 2 that was tried, at its id, would have passed the limit; and no other lookup ends a
+-- run so.
 use mathlib.Core.Path.{_≡_, refl, sym, ap, _∙_}
 use mathlib.Core.Bool.{Bool, true, false, cond}
 use mathlib.Core.List.{List, [], _∷_}
@@ -64,4 +65,5 @@ module _ (match : ℕ → Chain Asked → Text → Match) (write : ℕ → Glyph
     pub full-exactly : (book : List Lookup) (records : List Record) (positions : List ℕ) (end : ℕ) (t : Text) (d a : ℕ)
         → (runOn (rulesBy match write repair) book d records positions end a t .run .tally .ending ≡ Full)
         ↔ MetLimit (rulesBy match write repair) book d records (opened positions end (begun a t))
-    full-exactly book records positions end t = stopped-exactly (rulesBy match write repair) book records positions end t PastLimit Overfills limit-told
+    full-exactly book records positions end t =
+        stopped-exactly (rulesBy match write repair) book records positions end t PastLimit Overfills limit-told

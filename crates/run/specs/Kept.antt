@@ -1,5 +1,7 @@
--- What a run keeps to (01, "Records over a text"): the glyphs before a record's position are untouched, and every level stays sound over its text, so that no move leaves the text.
--- A lookup at the cursor changes only what follows it, and a record's position is never before its level's first; so it goes from record to level and from depth to depth.
+-- What a run keeps to (01, "Records over a text"): the glyphs before a record's position are untouched, and every level stays sound over its text, so
+-- that no move leaves the text.
+-- A lookup at the cursor changes only what follows it, and a record's position is never before its level's first; so it goes from record to level and
+-- from depth to depth.
 use mathlib.Core.Path.{_≡_, refl, sym, ap, _∙_}
 use mathlib.Core.Bool.{Bool, true, false, not, _&&_}
 use mathlib.Core.List.{List, [], _∷_}
@@ -14,8 +16,10 @@ use Rattle.glyph.specs.declared.Glyph.{Glyph}
 use Rattle.text.specs.Text.{Text, movedTo}
 use Rattle.book.specs.Book.{Record, Lookup, Found, lookupAt}
 use Rattle.run.specs.Repair.{Level, Mends, Sound}
-use Rattle.run.specs.Run.{Run, Stage, Effect, Made, Into, Halts, madeIn, Match, Matched, Unmatched, Deed, Acts, Chains, Rules, isOver, size, changed, when}
-use Rattle.run.specs.Run.{inRun, opened, chainedBy, doneBy, placeOf, isDue, arrived, spending, followedBy, triedBy, dueBy, stepBy, recordsBy, closed}
+use Rattle.run.specs.Run.{Run, Stage, Effect, Made, Into, Halts, madeIn, Match, Matched}
+use Rattle.run.specs.Run.{Unmatched, Deed, Acts, Chains, Rules, isOver, size, changed, when}
+use Rattle.run.specs.Run.{inRun, opened, chainedBy, doneBy, placeOf, isDue, arrived}
+use Rattle.run.specs.Run.{spending, followedBy, triedBy, dueBy, stepBy, recordsBy, closed}
 use Rattle.run.specs.Run.{acting, mending, deedAt, chainRun, lookupRun}
 use Rattle.run.specs.Rises.{rises-at}
 
@@ -57,7 +61,8 @@ kept-on : {p q : ℕ} {x y z : Run} → p ≤ q → Kept p x y → Kept q y z �
 kept-on {p} {q} {x} {y} {z} h a b =
     let l = b .long in
     record {
-      before = sym (take-take p q (z .text .glyphs) h) ∙ ap (λ (g : List Glyph). take p g) (b .before) ∙ take-take p q (y .text .glyphs) h ∙ a .before;
+      before = sym (take-take p q (z .text .glyphs) h) ∙ ap (λ (g : List Glyph). take p g) (b .before) ∙ take-take p q (y .text .glyphs) h
+          ∙ a .before;
       long = omega arith;
     }
 
@@ -74,12 +79,14 @@ made-keeps (Halts why) x h s = same-kept (x .text .cursor) x (madeIn (Halts why)
 abbrev pub KeepsLevel : (Stage → Stage) → Type 0
 KeepsLevel f = (low : ℕ) (x : Run) (v : Stage) → Good low x v → Good low x (f v)
 
-chained-keeps : (f : Stage → Stage) → KeepsLevel f → (x : Run) (m : Match) → x .text .cursor < size x → Fitting (x .text) m → Kept (x .text .cursor) x (chainedBy f m x)
+chained-keeps : (f : Stage → Stage) → KeepsLevel f → (x : Run) (m : Match) → x .text .cursor < size x → Fitting (x .text) m
+    → Kept (x .text .cursor) x (chainedBy f m x)
 chained-keeps f F x (Matched positions end) h s =
     F (x .text .cursor) x (opened positions end x) (record { level = s; kept = same-kept (x .text .cursor) x x refl (omega arith) }) .kept
 chained-keeps f F x Unmatched h s = same-kept (x .text .cursor) x x refl (omega arith)
 
-done-keeps : (chain : List Record → Stage → Stage) → ((rs : List Record) → KeepsLevel (chain rs)) → (deed : Deed) → FairDeed deed → Keeps (doneBy chain deed)
+done-keeps : (chain : List Record → Stage → Stage) → ((rs : List Record) → KeepsLevel (chain rs)) → (deed : Deed) → FairDeed deed
+    → Keeps (doneBy chain deed)
 done-keeps chain C (Acts act) f x h = made-keeps (act (x .text)) x h (f (x .text) h)
 done-keeps chain C (Chains match rs) f x h = chained-keeps (chain rs) (C rs) x (match (x .text)) h (f (x .text) h)
 
@@ -152,9 +159,13 @@ module _ (rules : Rules) (book : List Lookup) (fair : Fair rules book) where
   -- the records of a level leave it sound, and the glyphs before its first position untouched
   pub chain-good : (d : ℕ) (rs : List Record) → KeepsLevel (chainRun rules book d rs)
   unfolding chainRun
-  chain-good zero rs low x v g = closed-good low x _ (records-good (acting (mending rules book) (λ k y. y)) (λ k y h. same-kept (y .text .cursor) y y refl (omega arith)) (λ k. fair .mends (lookupAt k book)) zero rs low x v g)
+  chain-good zero rs low x v g =
+      closed-good low x _ (records-good (acting (mending rules book) (λ k y. y)) (λ k y h. same-kept (y .text .cursor) y y refl (omega arith))
+      (λ k. fair .mends (lookupAt k book)) zero rs low x v g)
   chain-good (suc d) rs low x v g =
-      closed-good low x _ (records-good (acting (mending rules book) (lookupRun rules book d)) (λ k. done-keeps (chainRun rules book d) (chain-good d) (deedAt rules book k) (fair .deeds k)) (λ k. fair .mends (lookupAt k book)) (suc d) rs low x v g)
+      closed-good low x _ (records-good (acting (mending rules book) (lookupRun rules book d))
+      (λ k. done-keeps (chainRun rules book d) (chain-good d) (deedAt rules book k) (fair .deeds k)) (λ k. fair .mends (lookupAt k book))
+      (suc d) rs low x v g)
 
   -- a lookup leaves the glyphs before the cursor untouched
   pub lookup-keeps : (d k : ℕ) → Keeps (lookupRun rules book d k)

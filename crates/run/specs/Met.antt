@@ -1,11 +1,13 @@
--- A due record that meets allowance 0, at any level of a run: what Short means (01, "Records over a text": "allowance 0, this level stops and the run is Short").
+-- A due record that meets allowance 0, at any level of a run: what Short means (01, "Records over a text": "allowance 0, this level stops and the run
+-- is Short").
 use mathlib.Core.Path.{_≡_}
 use mathlib.Core.Bool.{true}
 use mathlib.Core.List.{List, [], _∷_}
 use mathlib.Core.Logic.{_⊎_}
 use Prim.Native.Nat.{ℕ, zero, suc}
 use Rattle.book.specs.Book.{Record, Lookup}
-use Rattle.run.specs.Run.{Run, Stage, Effect, Deed, Acts, Chains, Rules, Match, Matched, Unmatched, opened, isDue, arrived, spending, stepBy, acting, mending, deedAt, lookupRun}
+use Rattle.run.specs.Run.{Run, Stage, Effect, Deed, Acts, Chains, Rules, Match, Matched, Unmatched}
+use Rattle.run.specs.Run.{opened, isDue, arrived, spending, stepBy, acting, mending, deedAt, lookupRun}
 
 -- at a due record, by the depth and the allowance that are left; `met k x` says it of lookup k, tried on x
 abbrev pub MetTry : (ℕ → Run → Type 0) → ℕ → ℕ → Record → Stage → Type 0

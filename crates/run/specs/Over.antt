@@ -1,5 +1,5 @@
--- After Deep or Full no record at any level is looked at again, and no level ends by a move (01, "Records over a text"): where a run is over, for whatever
--- reason, a level's records leave everything as it is; levels above only repair their positions for what was changed below them.
+-- After Deep or Full no record at any level is looked at again, and no level ends by a move (01, "Records over a text"): where a run is over, for
+-- whatever reason, a level's records leave everything as it is; levels above only repair their positions for what was changed below them.
 use mathlib.Core.Path.{_≡_, refl, sym, ap, _∙_}
 use mathlib.Core.Bool.{Bool, true, false, _&&_, true≢false}
 use mathlib.Core.List.{List, [], _∷_}
@@ -8,7 +8,8 @@ use Rattle.book.specs.Book.{Record, Lookup}
 use Rattle.run.specs.declared.Ending.{Ending}
 use Rattle.run.specs.declared.Ending.the-variants.{Finished, Short}
 use Rattle.run.specs.Repair.{Repairing}
-use Rattle.run.specs.Run.{Run, Stage, Effect, Rules, Reason, PastLimit, endingFor, isOver, isDue, followedBy, stepBy, recordsBy, closed, chainRun, acting, mending, lookupRun}
+use Rattle.run.specs.Run.{Run, Stage, Effect, Rules, Reason, PastLimit, endingFor, isOver, isDue}
+use Rattle.run.specs.Run.{followedBy, stepBy, recordsBy, closed, chainRun, acting, mending, lookupRun}
 
 -- ---- what is over
 
@@ -53,6 +54,8 @@ over-level rules book zero rs v e = ap closed (over-stays (acting (mending rules
 over-level rules book (suc d) rs v e = ap closed (over-stays (acting (mending rules book) (lookupRun rules book d)) (suc d) rs v e) ∙ over-unmoved v e
 
 -- and of a level above: the record's lookup left the run y, which is over; its positions are repaired, and that is all
-pub over-above : (repair : Repairing) (effects : ℕ → Effect) (depth : ℕ) (r : Record) (rs : List Record) (v : Stage) (y : Run) → isOver (y .tally .ending) ≡ true
+pub over-above : (repair : Repairing) (effects : ℕ → Effect) (depth : ℕ) (r : Record) (rs : List Record) (v : Stage) (y : Run)
+    → isOver (y .tally .ending) ≡ true
     → closed (recordsBy effects depth rs (followedBy repair r v y)) ≡ followedBy repair r v y
-over-above repair effects depth r rs v y e = ap closed (over-stays effects depth rs (followedBy repair r v y) e) ∙ over-unmoved (followedBy repair r v y) e
+over-above repair effects depth r rs v y e = ap closed (over-stays effects depth rs (followedBy repair r v y) e)
+    ∙ over-unmoved (followedBy repair r v y) e

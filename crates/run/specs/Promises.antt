@@ -71,11 +71,13 @@ module _ (rules : Rules) (book : List Lookup) (records : List Record) (positions
       chain-core rules book d d (le-refl d) records .0 .short (opened positions end (begun a t))
       (run d a .run .tally .spent) a′ e (spent-is-tries d a) lt .0
 
-  pub one-less-is-short : (d a : ℕ) → run d a .run .tally .ending ≡ Finished → 1 ≤ run d a .run .tally .spent → run d (run d a .run .tally .spent - 1) .run .tally .ending ≡ Short
+  pub one-less-is-short : (d a : ℕ) → run d a .run .tally .ending ≡ Finished → 1 ≤ run d a .run .tally .spent
+      → run d (run d a .run .tally .spent - 1) .run .tally .ending ≡ Short
   one-less-is-short d a e some = less-is-short d a (run d a .run .tally .spent - 1) e (omega arith)
 
   -- a match in the text, from the cursor on: its level stays sound, and no glyph before the cursor is touched
-  pub run-good : Fair rules book → (d a : ℕ) → Sound (t .cursor) (length (t .glyphs)) (record { live = true; positions = positions; end = end }) → t .cursor ≤ length (t .glyphs)
+  pub run-good : Fair rules book → (d a : ℕ) → Sound (t .cursor) (length (t .glyphs)) (record { live = true; positions = positions; end = end })
+      → t .cursor ≤ length (t .glyphs)
       → Good (t .cursor) (begun a t) (run d a)
   run-good fair d a s h =
       chain-good rules book fair d records (t .cursor) (begun a t)

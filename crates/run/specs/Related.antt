@@ -1,6 +1,6 @@
--- What any run keeps between the text before it and the text after it: every relation of lists of glyphs that is reflexive and transitive and that each
--- lookup's own act keeps, at a cursor in the text. So what is promised of whole runs needs only be shown of one act, and where lookups only write, of
--- one replacement.
+-- What any run keeps between the text before it and the text after it: every relation of lists of glyphs that is reflexive and transitive and that
+-- each lookup's own act keeps, at a cursor in the text. So what is promised of whole runs needs only be shown of one act, and where lookups only
+-- write, of one replacement.
 use mathlib.Core.Path.{_≡_, refl}
 use mathlib.Core.Bool.{Bool, true, false, not}
 use mathlib.Core.List.{List, [], _∷_}
@@ -9,7 +9,8 @@ use lib.ListN.{length}
 use Rattle.glyph.specs.declared.Glyph.{Glyph}
 use Rattle.text.specs.Text.{Text, movedTo}
 use Rattle.book.specs.Book.{Record, Lookup, Found, lookupAt}
-use Rattle.run.specs.Run.{Run, Stage, Effect, Made, Into, Halts, madeIn, Match, Matched, Unmatched, Deed, Acts, Chains, Rules, isOver, size, changed}
+use Rattle.run.specs.Run.{Run, Stage, Effect, Made, Into, Halts, madeIn, Match, Matched}
+use Rattle.run.specs.Run.{Unmatched, Deed, Acts, Chains, Rules, isOver, size, changed}
 use Rattle.run.specs.Run.{when, opened, begun, chainedBy, doneBy, isDue, arrived, spending, triedBy, dueBy, stepBy, recordsBy, closed}
 use Rattle.run.specs.Run.{acting, mending, deedAt, chainRun, lookupRun, runOn}
 use Rattle.run.specs.Kept.{Due, due-shows}
@@ -49,11 +50,13 @@ module _ (rules : Rules) (book : List Lookup) (R : List Glyph → List Glyph →
   chained-relates f F x (Matched positions end) = F (opened positions end x)
   chained-relates f F x Unmatched = unchanged x
 
-  done-relates : (chain : List Record → Stage → Stage) → ((rs : List Record) → RelatesLevel (chain rs)) → (deed : Deed) → LastingDeed R deed → Relates (doneBy chain deed)
+  done-relates : (chain : List Record → Stage → Stage) → ((rs : List Record) → RelatesLevel (chain rs)) → (deed : Deed) → LastingDeed R deed
+      → Relates (doneBy chain deed)
   done-relates chain C (Acts act) l x h = made-relates (act (x .text)) x (l (x .text) h)
   done-relates chain C (Chains match rs) l x h = chained-relates (chain rs) (C rs) x (match (x .text))
 
-  deed-relates : (chain : List Record → Stage → Stage) → ((rs : List Record) → RelatesLevel (chain rs)) → (k : ℕ) → Relates (doneBy chain (deedAt rules book k))
+  deed-relates : (chain : List Record → Stage → Stage) → ((rs : List Record) → RelatesLevel (chain rs)) → (k : ℕ)
+      → Relates (doneBy chain (deedAt rules book k))
   deed-relates chain C k = done-relates chain C (deedAt rules book k) (lasting .deeds (lookupAt k book))
 
   module _ (effects : ℕ → Effect) (F : (k : ℕ) → Relates (effects k .does)) where
@@ -92,11 +95,13 @@ module _ (rules : Rules) (book : List Lookup) (R : List Glyph → List Glyph →
   unfolding chainRun
   chain-relates zero rs = closing _ (records-relates (acting (mending rules book) (λ k x. x)) (λ k x h. unchanged x) zero rs)
   chain-relates (suc d) rs =
-      closing _ (records-relates (acting (mending rules book) (lookupRun rules book d)) (deed-relates (chainRun rules book d) (chain-relates d)) (suc d) rs)
+      closing _ (records-relates (acting (mending rules book) (lookupRun rules book d)) (deed-relates (chainRun rules book d) (chain-relates d))
+      (suc d) rs)
 
   pub lookup-relates : (d k : ℕ) → Relates (lookupRun rules book d k)
   lookup-relates d k = deed-relates (chainRun rules book d) (chain-relates d) k
 
   -- a run handed a match
-  pub run-relates : (d : ℕ) (rs : List Record) (positions : List ℕ) (end allowance : ℕ) (t : Text) → R (t .glyphs) (runOn rules book d rs positions end allowance t .run .text .glyphs)
+  pub run-relates : (d : ℕ) (rs : List Record) (positions : List ℕ) (end allowance : ℕ) (t : Text)
+      → R (t .glyphs) (runOn rules book d rs positions end allowance t .run .text .glyphs)
   run-relates d rs positions end allowance t = chain-relates d rs (opened positions end (begun allowance t))

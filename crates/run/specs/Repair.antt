@@ -77,4 +77,5 @@ pub record Sound (low size : ℕ) (lv : Level) : Type 0 where
 -- what a repair has to keep, after a lookup that left the glyphs before the record's position
 abbrev pub Mends : Repairing → Type 0
 Mends repair =
-    (low old : ℕ) (lv : Level) → Sound low old lv → (i : ℕ) → i < length (lv .positions) → (new : ℕ) → getD (lv .positions) i 0 ≤ new → Sound low new (repair i old new lv)
+    (low old : ℕ) (lv : Level) → Sound low old lv → (i : ℕ) → i < length (lv .positions) → (new : ℕ) → getD (lv .positions) i 0 ≤ new
+    → Sound low new (repair i old new lv)

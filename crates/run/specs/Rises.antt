@@ -1,5 +1,6 @@
 -- Laws of repair: positions stay rising, none passes the end, and there are at most 64.
--- Each law goes along the list to the record's position; there the new positions fit between it and the later ones, which move by as much as the end does.
+-- Each law goes along the list to the record's position; there the new positions fit between it and the later ones, which move by as much as the end
+-- does.
 use mathlib.Core.Path.{_≡_, refl, sym, ap, _∙_}
 use mathlib.Core.Bool.{Bool, true, false, cond}
 use mathlib.Core.List.{List, [], _∷_, _++_, map}
@@ -10,7 +11,8 @@ use borrow.Author.Tests.{leb-true, leb-false, ltb-true, ltb-false}
 use lib.Dec.{leb, ltb}
 use lib.ListN.{length, getD, take, drop, length-append, length-take, length-drop, length-map}
 use lib.Seq.{drop-nil, take-nil}
-use Rattle.run.specs.Repair.{Level, mostPositions, following, withGain, withLoss, grownBy, shrunkBy, raisedTo, heldBack, repaired, Rises, Sound, Mends, noPosition, next}
+use Rattle.run.specs.Repair.{Level, mostPositions, following, withGain, withLoss, grownBy, shrunkBy, raisedTo}
+use Rattle.run.specs.Repair.{heldBack, repaired, Rises, Sound, Mends, noPosition, next}
 
 pub rises-wider : {low end : ℕ} {ps : List ℕ} (low′ end′ : ℕ) → low′ ≤ low → end ≤ end′ → Rises low end ps → Rises low′ end′ ps
 rises-wider low′ end′ l e noPosition = noPosition
@@ -30,11 +32,13 @@ rises-drop {low} {end} (suc n) (next p a b r) = rises-wider (low + suc n) end (o
 
 rises-up : {low end : ℕ} {ps : List ℕ} (n : ℕ) → Rises low end ps → Rises (low + n) (end + n) (map (λ p. p + n) ps)
 rises-up n noPosition = noPosition
-rises-up {low} {end} n (next p a b r) = next {low = low + n} {end = end + n} (p + n) (omega arith) (omega arith) (rises-wider (p + n + 1) (end + n) (omega arith) (omega arith) (rises-up n r))
+rises-up {low} {end} n (next p a b r) = next {low = low + n} {end = end + n} (p + n) (omega arith) (omega arith)
+    (rises-wider (p + n + 1) (end + n) (omega arith) (omega arith) (rises-up n r))
 
 rises-down : (low : ℕ) {start end : ℕ} {ps : List ℕ} (n : ℕ) → start ≡ low + n → Rises start end ps → Rises low (end - n) (map (λ p. p - n) ps)
 rises-down low n e noPosition = noPosition
-rises-down low {end = end} n e (next p a b r) = next {low = low} {end = end - n} (p - n) (omega arith) (omega arith) (rises-down (p - n + 1) n (omega arith) r)
+rises-down low {end = end} n e (next p a b r) = next {low = low} {end = end - n} (p - n) (omega arith) (omega arith)
+    (rises-down (p - n + 1) n (omega arith) r)
 
 rises-join : {low end m : ℕ} {a b : List ℕ} → m ≤ end → low ≤ m + 1 → Rises low m a → Rises (m + 1) end b → Rises low end (a ++ b)
 rises-join {low} {end} h l noPosition s = rises-wider low end l (omega arith) s
@@ -43,7 +47,8 @@ rises-join {low} {end} h l (next p x y r) s = next {low = low} {end = end} p x (
 following-rises : (p n : ℕ) → Rises (p + 1) (p + n) (following p n)
 unfolding following
 following-rises p zero = noPosition
-following-rises p (suc n) = next {low = p + 1} {end = p + suc n} (p + 1) (omega arith) (omega arith) (rises-wider (p + 1 + 1) (p + suc n) (omega arith) (omega arith) (following-rises (p + 1) n))
+following-rises p (suc n) = next {low = p + 1} {end = p + suc n} (p + 1) (omega arith) (omega arith)
+    (rises-wider (p + 1 + 1) (p + suc n) (omega arith) (omega arith) (following-rises (p + 1) n))
 
 pub length-following : (p n : ℕ) → length (following p n) ≡ n
 unfolding following
@@ -115,7 +120,13 @@ module _ {low old : ℕ} {lv : Level} (s : Sound low old lv) (i : ℕ) (h : i < 
       by false e =
           let b = s .begins in
           let w = s .within in
-          record { few = s .few; rises = rises-wider low (lv .end + n) (omega arith) (omega arith) (s .rises); begins = omega arith; within = omega arith }
+          record {
+            few = s .few;
+            rises = rises-wider low (lv .end + n) (omega arith) (omega arith) (s .rises);
+            begins = omega arith;
+            within =
+                omega arith;
+          }
 
   -- the glyphs before the record's position are still there
   pub shrunk-sound : (n : ℕ) → getD (lv .positions) i 0 ≤ old - n → Sound low (old - n) (shrunkBy i n lv)
@@ -127,7 +138,8 @@ module _ {low old : ℕ} {lv : Level} (s : Sound low old lv) (i : ℕ) (h : i < 
       let f = s .few in
       record {
         few = omega (arith, length-lost i (heldBack i n lv) (lv .positions) h (omega arith));
-        rises = lost-rises i (heldBack i n lv) (lv .end - raisedTo i n lv) h (omega arith) (all-went (raisedTo i n lv) (length (lv .positions)) i (lv .end)) (s .rises);
+        rises = lost-rises i (heldBack i n lv) (lv .end - raisedTo i n lv) h (omega arith)
+            (all-went (raisedTo i n lv) (length (lv .positions)) i (lv .end)) (s .rises);
         begins = omega arith;
         within = omega arith;
       }

@@ -16,8 +16,10 @@ use Rattle.book.specs.Book.{Record, Lookup}
 use Rattle.run.specs.declared.Ending.{Ending}
 use Rattle.run.specs.declared.Ending.the-variants.{Finished, Short, Deep}
 use Rattle.run.specs.Repair.{Level, Repairing}
-use Rattle.run.specs.Run.{Run, Stage, Effect, Reason, endingFor, Made, Into, Halts, madeIn, Match, Matched, Unmatched, Deed, Acts, Chains, Rules, isOver, changed}
-use Rattle.run.specs.Run.{tallied, endingAs, inRun, when, opened, chainedBy, doneBy, isDue, arrived, spending, followedBy, triedBy, dueBy, stepBy}
+use Rattle.run.specs.Run.{Run, Stage, Effect, Reason, endingFor, Made, Into, Halts, madeIn}
+use Rattle.run.specs.Run.{Match, Matched, Unmatched, Deed, Acts, Chains, Rules, isOver, changed}
+use Rattle.run.specs.Run.{tallied, endingAs, inRun, when, opened, chainedBy, doneBy}
+use Rattle.run.specs.Run.{isDue, arrived, spending, followedBy, triedBy, dueBy, stepBy}
 use Rattle.run.specs.Run.{recordsBy, closed, acting, mending, deedAt, chainRun}
 use Rattle.run.specs.Over.{reason-over, finished-not-over}
 
@@ -59,13 +61,15 @@ module _ {X : Type 0} (left : X → ℕ) (ending : X → Ending) (refill : ℕ �
           | yes h ↦ stays (f′ (refill a x)) (F .short x s₁ a (G .sticky (f x) e) (omega arith) h)
           | no h ↦
               let i : a ≡ a - s₁ + s₁ = omega arith in
-              let p : f′ (refill a x) ≡ refill (a - s₁) (f x) = ap (λ n. f′ (refill n x)) i ∙ F .enough x s₁ (a - s₁) (G .sticky (f x) e) (omega arith) in
+              let p : f′ (refill a x) ≡ refill (a - s₁) (f x) = ap (λ n. f′ (refill n x)) i
+              ∙ F .enough x s₁ (a - s₁) (G .sticky (f x) e) (omega arith) in
               subst (λ y. Out left ending (g′ y)) (sym p) (G .short (f x) s₂ (a - s₁) e (omega arith) (omega arith))
         ];
   }
 
   -- what spends nothing, tells no ending and reads no allowance
-  pub silent : (f : X → X) → ((x : X) → left (f x) ≡ left x) → ((x : X) → ending (f x) ≡ ending x) → ((a : ℕ) (x : X) → f (refill a x) ≡ refill a (f x))
+  pub silent : (f : X → X) → ((x : X) → left (f x) ≡ left x) → ((x : X) → ending (f x) ≡ ending x)
+      → ((a : ℕ) (x : X) → f (refill a x) ≡ refill a (f x))
       → Core left ending refill f f
   silent f l e r = record {
     falls = λ x. omega (arith, l x);
@@ -75,7 +79,8 @@ module _ {X : Type 0} (left : X → ℕ) (ending : X → Ending) (refill : ℕ �
   }
 
   -- a run that goes by what no allowance changes
-  pub by-core : {P : Type 0} (h : X → P) → ((a : ℕ) (x : X) → h (refill a x) ≡ h x) → (f f′ : P → X → X) → ((p : P) → Core left ending refill (f p) (f′ p))
+  pub by-core : {P : Type 0} (h : X → P) → ((a : ℕ) (x : X) → h (refill a x) ≡ h x) → (f f′ : P → X → X)
+      → ((p : P) → Core left ending refill (f p) (f′ p))
       → Core left ending refill (λ x. f (h x) x) (λ x. f′ (h x) x)
   by-core h fixed f f′ F = record {
     falls = λ x. F (h x) .falls x;
@@ -188,7 +193,8 @@ module _ (r : Record) (v : Stage) where
     due-falls zero (suc l) e F = le-refl (suc l)
     due-falls (suc d) (suc l) e F = omega (arith, F (omega arith) .falls (handed l e))
 
-    due-sticky : (d l : ℕ) (e : Ending) → (1 ≤ d → RunCore (f (r .lookup)) (f′ (r .lookup))) → endOf (dueAt (acting mend f) d l e) ≡ Finished → e ≡ Finished
+    due-sticky : (d l : ℕ) (e : Ending) → (1 ≤ d → RunCore (f (r .lookup)) (f′ (r .lookup))) → endOf (dueAt (acting mend f) d l e) ≡ Finished
+        → e ≡ Finished
     unfolding triedBy
     due-sticky d zero e F h = absurd (short-not h)
     due-sticky zero (suc l) e F h = absurd (deep-not h)
@@ -205,7 +211,8 @@ module _ (r : Record) (v : Stage) where
         rw i (ap (λ (y : Run). followedBy (mend (r .lookup)) r (arrived r (stageAt 0 e)) y) (F .enough (handed l e) s a h (omega arith)))
 
     due-enough : (d d′ l s a : ℕ) (e : Ending) → d ≤ d′ → (1 ≤ d → RunCore (f (r .lookup)) (f′ (r .lookup)))
-        → endOf (dueAt (acting mend f) d l e) ≡ Finished → leftOf (dueAt (acting mend f) d l e) + s ≡ l → dueAt (acting mend f′) d′ (a + s) e ≡ refilledOf a (dueAt (acting mend f) d l e)
+        → endOf (dueAt (acting mend f) d l e) ≡ Finished → leftOf (dueAt (acting mend f) d l e) + s ≡ l
+        → dueAt (acting mend f′) d′ (a + s) e ≡ refilledOf a (dueAt (acting mend f) d l e)
     unfolding triedBy
     due-enough d d′ zero s a e le F h q = absurd (short-not h)
     due-enough zero d′ (suc l) s a e le F h q = absurd (deep-not h)
@@ -220,7 +227,8 @@ module _ (r : Record) (v : Stage) where
     tried-short d d′ l (suc s) (suc a) e F h q lt = F .short (handed l e) s a h (omega arith) (omega arith)
 
     due-short : (d d′ l s a : ℕ) (e : Ending) → d ≤ d′ → (1 ≤ d → RunCore (f (r .lookup)) (f′ (r .lookup)))
-        → endOf (dueAt (acting mend f) d l e) ≡ Finished → leftOf (dueAt (acting mend f) d l e) + s ≡ l → a < s → Out leftOf endOf (dueAt (acting mend f′) d′ a e)
+        → endOf (dueAt (acting mend f) d l e) ≡ Finished → leftOf (dueAt (acting mend f) d l e) + s ≡ l → a < s
+        → Out leftOf endOf (dueAt (acting mend f′) d′ a e)
     unfolding triedBy
     due-short d d′ zero s a e le F h q lt = absurd (short-not h)
     due-short zero d′ (suc l) s a e le F h q lt = absurd (deep-not h)

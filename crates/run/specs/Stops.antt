@@ -1,6 +1,6 @@
--- A run is Deep exactly when a due record met depth 0 with allowance left, and it ends for a reason exactly when a lookup that was tried met that reason
--- (01, "Records over a text"; what meets Full is said in Full.antt). As for Short (Tries): from a record to the records of a level, and by the depth to
--- the levels below. Once it is so it stays so, as no record is looked at again.
+-- A run is Deep exactly when a due record met depth 0 with allowance left, and it ends for a reason exactly when a lookup that was tried met that
+-- reason (01, "Records over a text"; what meets Full is said in Full.antt). As for Short (Tries): from a record to the records of a level, and by the
+-- depth to the levels below. Once it is so it stays so, as no record is looked at again.
 use mathlib.Core.Path.{_≡_, refl, sym, ap, _∙_}
 use mathlib.Core.Bool.{Bool, true, false, not}
 use mathlib.Core.List.{List, [], _∷_}
@@ -42,7 +42,8 @@ module _ (atNone : Type 0) (halts : Found → Text → Type 0) where
   unfoldable pub Meets : Rules → List Lookup → ℕ → List Record → Stage → Type 0
   Meets rules book zero rs v = MeetsRecords (λ k x. ⊥) (acting (mending rules book) (λ k x. x)) zero rs v
   Meets rules book (suc d) rs v =
-      MeetsRecords (λ k. MeetsDeed (Meets rules book d) (lookupAt k book) (deedAt rules book k)) (acting (mending rules book) (lookupRun rules book d)) (suc d) rs v
+      MeetsRecords (λ k. MeetsDeed (Meets rules book d) (lookupAt k book) (deedAt rules book k))
+      (acting (mending rules book) (lookupRun rules book d)) (suc d) rs v
 
 -- a due record met depth 0 with allowance left
 abbrev pub MetDepth : Rules → List Lookup → ℕ → List Record → Stage → Type 0
@@ -87,12 +88,14 @@ abbrev endOf : Stage → Ending
 endOf v = v .run .tally .ending
 
 module _ (E : Ending) (over : isOver E ≡ true) (atNone : Type 0) (halts : Found → Text → Type 0) (deep : (Deep ≡ E) ↔ atNone) (rules : Rules)
-    (made : (found : Found) (act : Text → Made) → rules .deed found ≡ Acts act → (t : Text) → Tells E ends (madeIn (act t)) (λ x. halts found t)) where
+    (made : (found : Found) (act : Text → Made) → rules .deed found ≡ Acts act → (t : Text)
+    → Tells E ends (madeIn (act t)) (λ x. halts found t)) where
   chained-tells : (g : Stage → Stage) (met : Stage → Type 0) → Tells E endOf g met → (m : Match) → Tells E ends (chainedBy g m) (MetMatch met m)
   chained-tells g met G (Matched ps e) = record { only = λ x. G .only (opened ps e x); so = λ x. G .so (opened ps e x) }
   chained-tells g met G Unmatched = record { only = λ x h. inl h; so = λ x m. absurd m }
 
-  module _ (chain : List Record → Stage → Stage) (met : List Record → Stage → Type 0) (C : (rs : List Record) → Tells E endOf (chain rs) (met rs)) where
+  module _ (chain : List Record → Stage → Stage) (met : List Record → Stage → Type 0)
+      (C : (rs : List Record) → Tells E endOf (chain rs) (met rs)) where
     done-tells : (found : Found) (deed : Deed) → rules .deed found ≡ deed → Tells E ends (doneBy chain deed) (MeetsDeed atNone halts met found deed)
     done-tells found (Acts act) e = record { only = λ x. made found act e (x .text) .only x; so = λ x. made found act e (x .text) .so x }
     done-tells found (Chains match rs) e = record {
@@ -113,14 +116,17 @@ module _ (E : Ending) (over : isOver E ≡ true) (atNone : Type 0) (halts : Foun
     tried-so zero (suc l) r v m = deep .1 m
     tried-so (suc d) (suc l) r v m = F (r .lookup) .so (spending l (v .run)) m
 
-    step-only : (d : ℕ) (r : Record) (v : Stage) → endOf (stepBy f d r v) ≡ E → (endOf v ≡ E) ⊎ ((isDue r v ≡ true) × MeetsTry atNone halts met d (v .run .tally .left) r (arrived r v))
+    step-only : (d : ℕ) (r : Record) (v : Stage) → endOf (stepBy f d r v) ≡ E
+        → (endOf v ≡ E) ⊎ ((isDue r v ≡ true) × MeetsTry atNone halts met d (v .run .tally .left) r (arrived r v))
     step-only d r v = by (isDue r v) refl
       where
-        by : (b : Bool) → isDue r v ≡ b → endOf (when b (dueBy f d r) v) ≡ E → (endOf v ≡ E) ⊎ ((isDue r v ≡ true) × MeetsTry atNone halts met d (v .run .tally .left) r (arrived r v))
+        by : (b : Bool) → isDue r v ≡ b → endOf (when b (dueBy f d r) v) ≡ E
+            → (endOf v ≡ E) ⊎ ((isDue r v ≡ true) × MeetsTry atNone halts met d (v .run .tally .left) r (arrived r v))
         by true e h = ⊎-elim (λ s. inl s) (λ m. inr (e, m)) (tried-only d (v .run .tally .left) r (arrived r v) h)
         by false e h = inl h
 
-    step-so : (d : ℕ) (r : Record) (v : Stage) → isDue r v ≡ true → MeetsTry atNone halts met d (v .run .tally .left) r (arrived r v) → endOf (stepBy f d r v) ≡ E
+    step-so : (d : ℕ) (r : Record) (v : Stage) → isDue r v ≡ true → MeetsTry atNone halts met d (v .run .tally .left) r (arrived r v)
+        → endOf (stepBy f d r v) ≡ E
     step-so d r v e m = rw e (tried-so d (v .run .tally .left) r (arrived r v) m)
 
     -- once so, it stays so
@@ -150,10 +156,13 @@ module _ (E : Ending) (over : isOver E ≡ true) (atNone : Type 0) (halts : Foun
   chain-tells : (book : List Lookup) (d : ℕ) (rs : List Record) → Tells E endOf (chainRun rules book d rs) (Meets atNone halts rules book d rs)
   unfolding chainRun Meets
   chain-tells book zero rs =
-      closing-tells _ _ (records-tells (acting (mending rules book) (λ k x. x)) (λ k x. ⊥) (λ k. record { only = λ x h. inl h; so = λ x m. absurd m }) zero rs)
+      closing-tells _ _ (records-tells (acting (mending rules book) (λ k x. x)) (λ k x. ⊥)
+      (λ k. record { only = λ x h. inl h; so = λ x m. absurd m }) zero rs)
   chain-tells book (suc d) rs =
-      closing-tells _ _ (records-tells (acting (mending rules book) (lookupRun rules book d)) (λ k. MeetsDeed atNone halts (Meets atNone halts rules book d) (lookupAt k book) (deedAt rules book k))
-      (λ k. done-tells (chainRun rules book d) (Meets atNone halts rules book d) (chain-tells book d) (lookupAt k book) (deedAt rules book k) refl) (suc d) rs)
+      closing-tells _ _ (records-tells (acting (mending rules book) (lookupRun rules book d))
+      (λ k. MeetsDeed atNone halts (Meets atNone halts rules book d) (lookupAt k book) (deedAt rules book k))
+      (λ k. done-tells (chainRun rules book d) (Meets atNone halts rules book d) (chain-tells book d) (lookupAt k book) (deedAt rules book k) refl)
+      (suc d) rs)
 
 -- ---- Deep, and each reason
 

@@ -10,7 +10,8 @@ use Rattle.text.specs.Text.{movedTo}
 use Rattle.book.specs.Book.{Record, Lookup}
 use Rattle.run.specs.declared.Ending.{Ending}
 use Rattle.run.specs.declared.Ending.the-variants.{Finished, Short, Deep}
-use Rattle.run.specs.Run.{Run, Stage, Effect, Reason, endingFor, Made, Into, Halts, madeIn, Match, Matched, Unmatched, Deed, Acts, Chains, Rules, isOver, changed}
+use Rattle.run.specs.Run.{Run, Stage, Effect, Reason, endingFor, Made, Into, Halts, madeIn}
+use Rattle.run.specs.Run.{Match, Matched, Unmatched, Deed, Acts, Chains, Rules, isOver, changed}
 use Rattle.run.specs.Run.{when, opened, chainedBy, doneBy, isDue, arrived, spending, triedBy, dueBy, stepBy, recordsBy, closed}
 use Rattle.run.specs.Run.{acting, mending, deedAt, chainRun, lookupRun}
 use Rattle.run.specs.Spending.{Out, Stays, left, ends, leftOf, endOf, due-out, records-stays, closed-stays, chain-core}
@@ -72,7 +73,8 @@ pub chain-adds : (rules : Rules) (book : List Lookup) (d : ℕ) (rs : List Recor
 unfolding chainRun
 chain-adds rules book zero rs v = closed-adds _ ∙ records-adds (acting (mending rules book) (λ k x. x)) (λ k x. refl) zero rs v
 chain-adds rules book (suc d) rs v =
-    closed-adds _ ∙ records-adds (acting (mending rules book) (lookupRun rules book d)) (λ k. done-adds (chainRun rules book d) (chain-adds rules book d) (deedAt rules book k)) (suc d) rs v
+    closed-adds _ ∙ records-adds (acting (mending rules book) (lookupRun rules book d))
+    (λ k. done-adds (chainRun rules book d) (chain-adds rules book d) (deedAt rules book k)) (suc d) rs v
 
 pub lookup-adds : (rules : Rules) (book : List Lookup) (d k : ℕ) → Adds (lookupRun rules book d k)
 lookup-adds rules book d k = done-adds (chainRun rules book d) (chain-adds rules book d) (deedAt rules book k)
@@ -94,11 +96,13 @@ made-told : (m : Made) (x : Run) → ends (madeIn m x) ≡ Short → ends x ≡ 
 made-told (Into t) x h = h
 made-told (Halts why) x h = absurd (reason-short why h)
 
-chained-told : (g : Stage → Stage) (met : Stage → Type 0) → ShortExactly leftOf endOf g met → (m : Match) → ShortExactly left ends (chainedBy g m) (MetMatch met m)
+chained-told : (g : Stage → Stage) (met : Stage → Type 0) → ShortExactly leftOf endOf g met → (m : Match)
+    → ShortExactly left ends (chainedBy g m) (MetMatch met m)
 chained-told g met G (Matched ps e) = record { only = λ x. G .only (opened ps e x); so = λ x. G .so (opened ps e x) }
 chained-told g met G Unmatched = record { only = λ x h. inl h; so = λ x m. absurd m }
 
-module _ (chain : List Record → Stage → Stage) (met : List Record → Stage → Type 0) (C : (rs : List Record) → ShortExactly leftOf endOf (chain rs) (met rs)) where
+module _ (chain : List Record → Stage → Stage) (met : List Record → Stage → Type 0)
+    (C : (rs : List Record) → ShortExactly leftOf endOf (chain rs) (met rs)) where
   done-told : (deed : Deed) → ShortExactly left ends (doneBy chain deed) (MetDeed met deed)
   done-told (Acts act) = record { only = λ x h. inl (made-told (act (x .text)) x h); so = λ x m. absurd m }
   done-told (Chains match rs) = record {
@@ -119,10 +123,12 @@ module _ (f : ℕ → Effect) (met : ℕ → Run → Type 0) (F : (k : ℕ) → 
   tried-so zero (suc l) r v e m = absurd m
   tried-so (suc d) (suc l) r v e m = F (r .lookup) .so (spending l (v .run)) m
 
-  step-only : (d : ℕ) (r : Record) (v : Stage) → endOf (stepBy f d r v) ≡ Short → (endOf v ≡ Short) ⊎ ((isDue r v ≡ true) × MetTry met d (leftOf v) r (arrived r v))
+  step-only : (d : ℕ) (r : Record) (v : Stage) → endOf (stepBy f d r v) ≡ Short
+      → (endOf v ≡ Short) ⊎ ((isDue r v ≡ true) × MetTry met d (leftOf v) r (arrived r v))
   step-only d r v = by (isDue r v) refl
     where
-      by : (b : Bool) → isDue r v ≡ b → endOf (when b (dueBy f d r) v) ≡ Short → (endOf v ≡ Short) ⊎ ((isDue r v ≡ true) × MetTry met d (leftOf v) r (arrived r v))
+      by : (b : Bool) → isDue r v ≡ b → endOf (when b (dueBy f d r) v) ≡ Short
+          → (endOf v ≡ Short) ⊎ ((isDue r v ≡ true) × MetTry met d (leftOf v) r (arrived r v))
       by true e h = ⊎-elim (λ s. inl s) (λ m. inr (e, m)) (tried-only d (leftOf v) r (arrived r v) h)
       by false e h = inl h
 
@@ -140,16 +146,22 @@ module _ (f : ℕ → Effect) (met : ℕ → Run → Type 0) (F : (k : ℕ) → 
 
 closing-told : (g : Stage → Stage) (met : Stage → Type 0) → ShortExactly leftOf endOf g met → ShortExactly leftOf endOf (λ v. closed (g v)) met
 unfolding closed
-closing-told g met G = record { only = λ v h. G .only v (by v (not (isOver (g v .run .tally .ending))) h); so = λ v m. closed-stays (g v) (G .so v m) }
+closing-told g met G = record {
+  only = λ v h. G .only v (by v (not (isOver (g v .run .tally .ending))) h);
+  so =
+      λ v m. closed-stays (g v) (G .so v m);
+}
   where
     by : (v : Stage) (b : Bool) → ends (when b (changed (movedTo (g v .level .end))) (g v .run)) ≡ Short → endOf (g v) ≡ Short
     by v true h = h
     by v false h = h
 
-pub chain-told : (rules : Rules) (book : List Lookup) (d : ℕ) (rs : List Record) → ShortExactly leftOf endOf (chainRun rules book d rs) (Met rules book d rs)
+pub chain-told : (rules : Rules) (book : List Lookup) (d : ℕ) (rs : List Record)
+    → ShortExactly leftOf endOf (chainRun rules book d rs) (Met rules book d rs)
 unfolding chainRun Met
 chain-told rules book zero rs =
-    closing-told _ _ (records-told (acting (mending rules book) (λ k x. x)) (λ k x. ⊥) (λ k. record { only = λ x h. inl h; so = λ x m. absurd m }) zero rs)
+    closing-told _ _ (records-told (acting (mending rules book) (λ k x. x)) (λ k x. ⊥)
+    (λ k. record { only = λ x h. inl h; so = λ x m. absurd m }) zero rs)
 chain-told rules book (suc d) rs =
     closing-told _ _ (records-told (acting (mending rules book) (lookupRun rules book d)) (λ k. MetDeed (Met rules book d) (deedAt rules book k))
     (λ k. done-told (chainRun rules book d) (Met rules book d) (chain-told rules book d) (deedAt rules book k)) (suc d) rs)

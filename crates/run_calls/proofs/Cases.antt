@@ -13,8 +13,10 @@ use Rattle.run.specs.declared.RunRefusal.the-variants.{Match}
 use Rattle.run_calls.specs.declared.Checked.{Checked}
 use Rattle.run_calls.specs.Calls.{checkedPlaces}
 
-pub other : (a : InputAnswer) (idx count : ℕ) (places : List ℕ) → OneOf (1 ∷ (2 ∷ (3 ∷ []))) (tagOf the-type a) → checkedPlaces idx a count places ≡ Checked.Refused Match
-other (InputAnswer.Matched end total) idx count places h = ⊎-elim (λ q. absurd (omega arith)) (λ k. ⊎-elim (λ q. absurd (omega arith)) (λ q. absurd (omega arith)) k) h
+pub other : (a : InputAnswer) (idx count : ℕ) (places : List ℕ) → OneOf (1 ∷ (2 ∷ (3 ∷ []))) (tagOf the-type a)
+    → checkedPlaces idx a count places ≡ Checked.Refused Match
+other (InputAnswer.Matched end total) idx count places h = ⊎-elim (λ q. absurd (omega arith))
+    (λ k. ⊎-elim (λ q. absurd (omega arith)) (λ q. absurd (omega arith)) k) h
 other (InputAnswer.Refused why) idx count places h = refl
 other (InputAnswer.Lost extent) idx count places h = refl
 other InputAnswer.Ligature idx count places h = refl

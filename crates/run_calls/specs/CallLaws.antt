@@ -39,7 +39,8 @@ use Rattle.run_calls.specs.declared.Checked.{Checked}
 use Rattle.run_cycle.specs.declared.Closed.{Closed}
 use Rattle.run_step.specs.State.{Ran}
 use Rattle.run_cycle.specs.Levels.{Indexed, Chained}
-use Rattle.run_calls.specs.Calls.{Handed, badRecords, checkedFirst, checkedPlaces, checkedMatch, checkedBook, checkedAll, then, risesTo, goodPlaces, refusedBy, RunLeaves, SaidBy}
+use Rattle.run_calls.specs.Calls.{Handed, badRecords, checkedFirst, checkedPlaces, checkedMatch, checkedBook, checkedAll}
+use Rattle.run_calls.specs.Calls.{then, risesTo, goodPlaces, refusedBy, RunLeaves, SaidBy}
 
 -- ---- places that rise, one a turn
 
@@ -52,7 +53,8 @@ module _ (from end count : ℕ) (places : List ℕ) (all : length places ≡ 64)
   LeftFrom low i = risesTo from end (take count places) ≡ risesTo low end (drop i (take count places))
 
   here : (low i : ℕ) → i < count → LeftFrom low i
-      → risesTo from end (take count places) ≡ (leb low (getD places i 0) && (ltb (getD places i 0) end && risesTo (getD places i 0 + 1) end (drop (i + 1) (take count places))))
+      → risesTo from end (take count places)
+      ≡ (leb low (getD places i 0) && (ltb (getD places i 0) end && risesTo (getD places i 0 + 1) end (drop (i + 1) (take count places))))
   unfolding risesTo
   here low i h e =
       let n : length L ≡ count = length-take-le count places (omega arith) in
@@ -100,7 +102,8 @@ module _ (idx end count : ℕ) (places : List ℕ) where
         places-rise p e h = rw (ne-eqb count 0 some, le-leb count slots few, le-leb end limit short, ← e, eq-eqb p idx h)
 
 -- rising places, moved to the text, are a level's positions
-pub moved-rise : (low end : ℕ) (ps : List ℕ) (idx d lo : ℕ) → idx ≤ low → lo ≡ d + (low - idx) → risesTo low end ps ≡ true → Rises lo (d + (end - idx)) (map (fromDone idx d) ps)
+pub moved-rise : (low end : ℕ) (ps : List ℕ) (idx d lo : ℕ) → idx ≤ low → lo ≡ d + (low - idx) → risesTo low end ps ≡ true
+    → Rises lo (d + (end - idx)) (map (fromDone idx d) ps)
 unfolding risesTo
 moved-rise low end [] idx d lo h q e = rises.noPosition
 moved-rise low end (p ∷ ps) idx d lo h q e =
@@ -130,7 +133,8 @@ places-show idx end count places e =
     let e₂ = and-right b (c && (f && g)) e₁ in
     let e₃ = and-right c (f && g) e₂ in
     record {
-      some = λ z. let q : not (eqb count 0) ≡ true = and-left a (b && (c && (f && g))) e in let r : false ≡ true = rw (eq-eqb count 0 z) at q in let w : _≡_ {A = ℕ} 0 1 = cc in absurd (omega arith);
+      some = λ z. let q : not (eqb count 0) ≡ true = and-left a (b && (c && (f && g))) e in let r : false ≡ true = rw (eq-eqb count 0 z) at q in
+          let w : _≡_ {A = ℕ} 0 1 = cc in absurd (omega arith);
       few = leb-true count slots (and-left b (c && (f && g)) e₁);
       short = leb-true end limit (and-left c (f && g) e₂);
       first = eqb-true (getD places 0 0) idx (and-left f g e₃);
@@ -152,7 +156,8 @@ first-below idx end (suc n) (p ∷ places) all s =
     omega arith
 
 -- the level of a match that isn't refused is sound over the text
-module _ (done coming : List ℕ) (p : Place) (f : Fits done coming p) (end count : ℕ) (places : List ℕ) (all : length places ≡ 64) (s : Shows (p .idx) end count places) where
+module _ (done coming : List ℕ) (p : Place) (f : Fits done coming p) (end count : ℕ) (places : List ℕ) (all : length places ≡ 64)
+    (s : Shows (p .idx) end count places) where
   pub open-asks : (length places ≡ 64) × (count ≤ 64) × (p .idx ≤ end) × (end ≤ limit) × (p .d ≤ p .idx)
   open-asks = let b = first-below (p .idx) end count places all s in (all, s .few, omega arith, s .short, f .room)
 
@@ -164,7 +169,8 @@ module _ (done coming : List ℕ) (p : Place) (f : Fits done coming p) (end coun
       let n : length (take count places) ≡ count = length-take-le count places (omega (arith, s .few)) in
       record {
         few = omega (arith, length-map (take count places) (fromDone (p .idx) (p .d)), s .few);
-        rises = rises-wider 0 (p .d + (end - p .idx)) (omega arith) (omega arith) (moved-rise (p .idx) end (take count places) (p .idx) (p .d) (p .d) (omega arith) e (s .rise));
+        rises = rises-wider 0 (p .d + (end - p .idx)) (omega arith) (omega arith)
+            (moved-rise (p .idx) end (take count places) (p .idx) (p .d) (p .d) (omega arith) e (s .rise));
         begins = omega arith;
         within = omega (arith, s .short);
       }
@@ -173,7 +179,15 @@ module _ (done coming : List ℕ) (p : Place) (f : Fits done coming p) (end coun
 
 pub whole-is : (v : Stage) (done₁ coming₁ done₂ coming₂ : List ℕ) (r : Closed) → Chained done₁ coming₁ r v
     → Holds done₂ coming₂ (r .state .place) (textOf done₁ coming₁ (r .state .place)) → Clear done₂ coming₂ (r .state .place)
-    → RunLeaves v done₂ coming₂ (record { ending = RunEnding.Ended (r .state .ending); spent = r .state .spent; d = r .state .place .d; idx = r .state .place .idx; count = r .level .count; positions = r .level .at })
+    → RunLeaves v done₂ coming₂ (record {
+      ending = RunEnding.Ended (r .state .ending);
+      spent = r .state .spent;
+      d = r .state .place .d;
+      idx =
+          r .state .place .idx;
+      count = r .level .count;
+      positions = r .level .at;
+    })
 whole-is v done₁ coming₁ done₂ coming₂ r c h k = record {
   ending = ap (λ (x : Run). RunEnding.Ended (x .tally .ending)) (c .ran .is);
   spent = ap (λ (x : Run). x .tally .spent) (c .ran .is);
@@ -185,13 +199,16 @@ whole-is v done₁ coming₁ done₂ coming₂ r c h k = record {
 
 -- ---- the refusals, by their cases
 
-pub said-whole : (k : Checked) (v : Stage) (done coming done′ coming′ : List ℕ) (r : RunAnswer) → k ≡ Checked.Accepted → RunLeaves v done′ coming′ r → SaidBy k v done coming done′ coming′ r
+pub said-whole : (k : Checked) (v : Stage) (done coming done′ coming′ : List ℕ) (r : RunAnswer) → k ≡ Checked.Accepted → RunLeaves v done′ coming′ r
+    → SaidBy k v done coming done′ coming′ r
 said-whole k v done coming done′ coming′ r e w = rw e w
 
-pub said-same : (k k′ : Checked) (v : Stage) (done coming done′ coming′ : List ℕ) (r : RunAnswer) → k ≡ k′ → SaidBy k′ v done coming done′ coming′ r → SaidBy k v done coming done′ coming′ r
+pub said-same : (k k′ : Checked) (v : Stage) (done coming done′ coming′ : List ℕ) (r : RunAnswer) → k ≡ k′ → SaidBy k′ v done coming done′ coming′ r
+    → SaidBy k v done coming done′ coming′ r
 said-same k k′ v done coming done′ coming′ r e w = rw e w
 
-pub said-refused : (k : Checked) (why : RunRefusal) (v : Stage) (done coming : List ℕ) (r : RunAnswer) → k ≡ Checked.Refused why → r ≡ refusedBy why → SaidBy k v done coming done coming r
+pub said-refused : (k : Checked) (why : RunRefusal) (v : Stage) (done coming : List ℕ) (r : RunAnswer) → k ≡ Checked.Refused why → r ≡ refusedBy why
+    → SaidBy k v done coming done coming r
 said-refused k why v done coming r e q = rw e (q, refl, refl)
 
 module _ (idx end total count : ℕ) (places : List ℕ) (a : InputAnswer) (is : a ≡ InputAnswer.Matched end total) where
@@ -234,12 +251,14 @@ index-is ws i e r = record {
 accepted-not : (why : RunRefusal) → Checked.Refused why ≡ Checked.Accepted → ⊥
 accepted-not why e = let z : _≡_ {A = ℕ} 0 1 = cc in omega arith
 
-not-refused : (b : Bool) (why : RunRefusal) (rest : Checked) → cond b (Checked.Refused why) rest ≡ Checked.Accepted → (b ≡ false) × (rest ≡ Checked.Accepted)
+not-refused : (b : Bool) (why : RunRefusal) (rest : Checked) → cond b (Checked.Refused why) rest ≡ Checked.Accepted
+    → (b ≡ false) × (rest ≡ Checked.Accepted)
 not-refused true why rest e = absurd (accepted-not why e)
 not-refused false why rest e = (refl, e)
 
 module _ (h : Handed) (allowance depth : ℕ) where
-  pub all-first : (why : RunRefusal) → checkedFirst (h .done) (h .coming) (h .place) (h .sets) (h .records) allowance depth ≡ Checked.Refused why → checkedAll h allowance depth ≡ Checked.Refused why
+  pub all-first : (why : RunRefusal) → checkedFirst (h .done) (h .coming) (h .place) (h .sets) (h .records) allowance depth ≡ Checked.Refused why
+      → checkedAll h allowance depth ≡ Checked.Refused why
   unfolding checkedAll
   all-first why e = rw e
 

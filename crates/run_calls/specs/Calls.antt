@@ -1,4 +1,5 @@
--- The run on rows of words: refused by 1, 2, 12, 11 or 7 in this order with no word changed, else what the run on the text says (01, "Records over a text", "When the desk says no").
+-- The run on rows of words: refused by 1, 2, 12, 11 or 7 in this order with no word changed, else what the run on the text says (01, "Records over a
+-- text", "When the desk says no").
 use mathlib.Core.Path.{_≡_}
 use mathlib.Core.Bool.{Bool, true, false, cond, not, _&&_, _||_}
 use mathlib.Core.List.{List, [], _∷_}
@@ -107,7 +108,8 @@ runSays h allowance depth =
     let p = h .place in
     let m = h .match in
     let first = movedLevel (p .idx) (p .d) (take (m .count) (m .positions)) (matchEnd (m .answer)) in
-    runOn (ruled (h .given) (h .sets)) (lookupsOf (h .book)) depth (recordsOf (h .records)) (first .positions) (first .end) allowance (textOf (h .done) (h .coming) p)
+    runOn (ruled (h .given) (h .sets)) (lookupsOf (h .book)) depth (recordsOf (h .records)) (first .positions) (first .end) allowance
+    (textOf (h .done) (h .coming) p)
 
 -- refused: the number, and no word changed; accepted: what the run on the text says
 abbrev pub SaidBy : Checked → Stage → List ℕ → List ℕ → List ℕ → List ℕ → RunAnswer → Type 0

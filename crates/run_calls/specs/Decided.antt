@@ -16,7 +16,8 @@ pub record SameRun (done coming : List ℕ) (r : RunAnswer) (done′ coming′ :
   pub done-same : done ≡ done′
   pub coming-same : coming ≡ coming′
 
-whole-decided : (v : Stage) (done coming : List ℕ) (r : RunAnswer) (done′ coming′ : List ℕ) (r′ : RunAnswer) → Small done → Small coming → Small done′ → Small coming′
+whole-decided : (v : Stage) (done coming : List ℕ) (r : RunAnswer) (done′ coming′ : List ℕ) (r′ : RunAnswer) → Small done → Small coming → Small done′
+    → Small coming′
     → RunLeaves v done coming r → RunLeaves v done′ coming′ r′ → SameRun done coming r done′ coming′ r′
 whole-decided v done coming r done′ coming′ r′ a b a′ b′ w w′ =
     let p : Place = record { d = r .d; idx = r .idx } in
@@ -38,4 +39,5 @@ pub run-decided : (k : Checked) (v : Stage) (done₀ coming₀ done coming : Lis
     → SaidBy k v done₀ coming₀ done coming r → SaidBy k v done₀ coming₀ done′ coming′ r′ → SameRun done coming r done′ coming′ r′
 run-decided (Checked.Refused why) v done₀ coming₀ done coming r done′ coming′ r′ a b a′ b′ s s′ =
     record { answer = s .0 ∙ sym (s′ .0); done-same = s .1 ∙ sym (s′ .1); coming-same = s .2 ∙ sym (s′ .2) }
-run-decided Checked.Accepted v done₀ coming₀ done coming r done′ coming′ r′ a b a′ b′ s s′ = whole-decided v done coming r done′ coming′ r′ a b a′ b′ s s′
+run-decided Checked.Accepted v done₀ coming₀ done coming r done′ coming′ r′ a b a′ b′ s s′ =
+    whole-decided v done coming r done′ coming′ r′ a b a′ b′ s s′

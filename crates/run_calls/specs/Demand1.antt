@@ -1,5 +1,6 @@
--- Demand 1 of runs, in 01's numbers (01, "When the desk says no"): a call is refused by 1, 2, 12, 11 or 7 exactly when that line refuses and no line before it
--- does, and then no word is changed; else it ends with 0, or with 8, 9 or 10, each exactly when its line says, and both rows are said word for word.
+-- Demand 1 of runs, in 01's numbers (01, "When the desk says no"): a call is refused by 1, 2, 12, 11 or 7 exactly when that line refuses and no line
+-- before it does, and then no word is changed; else it ends with 0, or with 8, 9 or 10, each exactly when its line says, and both rows are said word
+-- for word.
 -- Said of any answer and rows that meet the contract of `run_calls::run`.
 use mathlib.Core.Path.{_≡_, refl, sym, subst}
 use mathlib.Core.List.{List, []}
@@ -58,7 +59,8 @@ pub record Demand1 (h : Handed) (allowance depth : ℕ) (l : Left) : Type 0 wher
   pub short-8 : (leftNumber l ≡ 8) ↔ (Acceptable h allowance depth × MetAllowance0 h allowance depth)
   pub deep-9 : (leftNumber l ≡ 9) ↔ (Acceptable h allowance depth × MetDepth0 h allowance depth)
   pub full-10 : (leftNumber l ≡ 10) ↔ (Acceptable h allowance depth × MetFull h allowance depth)
-  -- with each of these four the rows hold the text that the steps taken made it, word for word: its first d glyphs and then zeros, zeros and then the rest
+  -- with each of these four the rows hold the text that the steps taken made it, word for word: its first d glyphs and then zeros, zeros and then the
+  -- rest
   pub rows : Ends (leftNumber l) → HoldsOnly (l .done) (l .coming) (placeLeft l) (runSays h allowance depth .run .text)
 
 -- ---- a call keeps it
@@ -101,7 +103,8 @@ module _ (h : Handed) (a d : ℕ) (l : Left) (c : Called h a d l) where
       let k = checkedAll h a d in
       let v = runSays h a d in
       record {
-        refused = λ n. Iff·trans (told-refused k v (h .done) (h .coming) (l .done) (l .coming) (l .answer) n (c .said)) (table.refused h a d (c .book-words) n);
+        refused = λ n. Iff·trans (told-refused k v (h .done) (h .coming) (l .done) (l .coming) (l .answer) n (c .said))
+            (table.refused h a d (c .book-words) n);
         unchanged = same-rows k (c .said);
         ended = (
           λ s. subst Ends (sym (told (v .run .tally .ending) .1 (accepted .1 s, refl))) (ending-ends (v .run .tally .ending)),

@@ -1,5 +1,6 @@
--- Demand 3 of calls, in 01's numbers and values (01, "Nailing an answer down": a Finished run stays the same with a larger allowance and depth, and one less
--- than it spent is Short). Said of two calls of the same text, and of any answers and rows that meet the contract of `run_calls::run`, so of every call of it.
+-- Demand 3 of calls, in 01's numbers and values (01, "Nailing an answer down": a Finished run stays the same with a larger allowance and depth, and
+-- one less than it spent is Short). Said of two calls of the same text, and of any answers and rows that meet the contract of `run_calls::run`, so of
+-- every call of it.
 use mathlib.Core.Path.{_≡_, refl, sym, ap, subst, _∙_}
 use mathlib.Core.List.{List, [], _∷_, _++_}
 use mathlib.Core.Logic.{inl, inr, ⊎-elim}
@@ -50,13 +51,16 @@ pub record SameLeft (l l′ : Left) : Type 0 where
 
 pub record Demand3 (h h′ : Handed) : Type 0 where
   -- Finished (0); at least its allowance and depth, within 12's limits
-  pub more-same : (a d a′ d′ : ℕ) (l l′ : Left) → Called h a d l → Called h′ a′ d′ l′ → leftNumber l ≡ 0 → a ≤ a′ → d ≤ d′ → Limited a′ d′ → SameLeft l l′
+  pub more-same : (a d a′ d′ : ℕ) (l l′ : Left) → Called h a d l → Called h′ a′ d′ l′ → leftNumber l ≡ 0 → a ≤ a′ → d ≤ d′ → Limited a′ d′
+      → SameLeft l l′
   -- and beyond them, 12
   pub beyond-12 : (a d a′ d′ : ℕ) (l l′ : Left) → Called h a d l → Called h′ a′ d′ l′ → leftNumber l ≡ 0 → Beyond a′ d′ → repliesAs 12 [] l′
   -- Finished, and s spent; with any allowance below that and the same depth it is Short (8)
-  pub less-short : (a d a′ s : ℕ) (values : List ℕ) (l l′ : Left) → Called h a d l → Called h′ a′ d l′ → repliesAs 0 (s ∷ values) l → a′ < s → leftNumber l′ ≡ 8
+  pub less-short : (a d a′ s : ℕ) (values : List ℕ) (l l′ : Left) → Called h a d l → Called h′ a′ d l′ → repliesAs 0 (s ∷ values) l → a′ < s
+      → leftNumber l′ ≡ 8
   -- so with one less
-  pub one-less-short : (a d s : ℕ) (values : List ℕ) (l l′ : Left) → Called h a d l → Called h′ s d l′ → repliesAs 0 (suc s ∷ values) l → leftNumber l′ ≡ 8
+  pub one-less-short : (a d s : ℕ) (values : List ℕ) (l l′ : Left) → Called h a d l → Called h′ s d l′ → repliesAs 0 (suc s ∷ values) l
+      → leftNumber l′ ≡ 8
 
 -- ---- a reply of 0 is a run that ended Finished
 
@@ -76,8 +80,10 @@ record Ended0 (k : Checked) (v : Stage) (done coming : List ℕ) (r : RunAnswer)
   finished : v .run .tally .ending ≡ Finished
   whole : RunLeaves v done coming r
 
-ended-0 : (k : Checked) (v : Stage) (done₀ coming₀ done coming : List ℕ) (r : RunAnswer) → SaidBy k v done₀ coming₀ done coming r → runReply r .number ≡ 0 → Ended0 k v done coming r
-ended-0 (Checked.Refused why) v done₀ coming₀ done coming r s z = absurd (refusal-not-0 why (sym (ap (λ (x : Reply). x .number) (refused-reply r why (s .0))) ∙ z))
+ended-0 : (k : Checked) (v : Stage) (done₀ coming₀ done coming : List ℕ) (r : RunAnswer) → SaidBy k v done₀ coming₀ done coming r
+    → runReply r .number ≡ 0 → Ended0 k v done coming r
+ended-0 (Checked.Refused why) v done₀ coming₀ done coming r s z =
+    absurd (refusal-not-0 why (sym (ap (λ (x : Reply). x .number) (refused-reply r why (s .0))) ∙ z))
 ended-0 Checked.Accepted v done₀ coming₀ done coming r s z =
     record { taken = refl; finished = finished-by (v .run .tally .ending) (sym (ended-number r (v .run .tally .ending) (s .ending)) ∙ z); whole = s }
 
@@ -114,9 +120,12 @@ module _ (h : Handed) where
       same-by a′ d′ l′ c′ more deeper lim =
           let w′ = leaves h a′ d′ l′ c′ (still-accepted (c .book-words) a d a′ d′ (ended .taken) lim) in
           let alike : Alike (runSays h a′ d′) (runSays h a d) =
-          more-is-same (ruled (h .given) (h .sets)) (lookupsOf (h .book)) (recordsOf (h .records)) (first .positions) (first .end) t d d′ a a′ deeper more (ended .finished) in
-          let s = run-decided Checked.Accepted (runSays h a d) (h .done) (h .coming) (l .done) (l .coming) (l .answer) (l′ .done) (l′ .coming) (l′ .answer)
-          (c .done-words) (c .coming-words) (c′ .done-words) (c′ .coming-words) (ended .whole) (whole-alike (runSays h a′ d′) (runSays h a d) (l′ .done) (l′ .coming) (l′ .answer) alike w′) in
+          more-is-same (ruled (h .given) (h .sets)) (lookupsOf (h .book)) (recordsOf (h .records)) (first .positions)
+          (first .end) t d d′ a a′ deeper more (ended .finished) in
+          let s = run-decided Checked.Accepted (runSays h a d) (h .done) (h .coming) (l .done) (l .coming) (l .answer) (l′ .done) (l′ .coming)
+          (l′ .answer)
+          (c .done-words) (c .coming-words) (c′ .done-words) (c′ .coming-words) (ended .whole)
+          (whole-alike (runSays h a′ d′) (runSays h a d) (l′ .done) (l′ .coming) (l′ .answer) alike w′) in
           record {
             answer = s .answer;
             reply = ap runReply (s .answer);
@@ -141,7 +150,8 @@ module _ (h : Handed) where
           let few = spent-within rules book records (first .positions) (first .end) t d a in
           let lim = accepted h a d (c .book-words) .0 (ended .taken) .limited in
           let w′ = leaves h a′ d l′ c′ (still-accepted (c .book-words) a d a′ d (ended .taken) (omega (arith, lim .0), lim .1)) in
-          let e : runSays h a′ d .run .tally .ending ≡ Short = less-is-short rules book records (first .positions) (first .end) t d a a′ (ended .finished) some in
+          let e : runSays h a′ d .run .tally .ending ≡ Short = less-is-short rules book records (first .positions) (first .end) t d a a′
+          (ended .finished) some in
           ended-number (l′ .answer) Short (w′ .ending ∙ ap RunEnding.Ended e)
 
 -- the number spent is the first value of a reply of 0
@@ -152,7 +162,8 @@ spent-first r (RunEnding.Refused why) s values q z = absurd (refusal-not-0 why (
 -- ---- a call that is accepted stays so over any rows that hold its text
 
 -- the place is the text's where the rows have a run's length
-place-by : (done coming done′ coming′ : List ℕ) (p p′ : Place) → Fits done coming p → p .idx < limit → length done ≡ length done′ → length coming ≡ length coming′
+place-by : (done coming done′ coming′ : List ℕ) (p p′ : Place) → Fits done coming p → p .idx < limit → length done ≡ length done′
+    → length coming ≡ length coming′
     → textOf done coming p ≡ textOf done′ coming′ p′ → p ≡ p′
 place-by done coming done′ coming′ p p′ f i a b e =
     let z = sizes done coming p f in
@@ -162,14 +173,16 @@ place-by done coming done′ coming′ p p′ f i a b e =
     let r = f .room in
     let w = f .within in
     let front : length (take (p′ .d) (glyphsOf done′)) ≡ p′ .d = length-take-le (p′ .d) (glyphsOf done′) (omega arith) in
-    let whole : length (take (p′ .d) (glyphsOf done′) ++ drop (p′ .idx) (glyphsOf coming′)) ≡ p′ .d + (limit - p′ .idx) = simp (length-append, length-drop) (omega arith) in
+    let whole : length (take (p′ .d) (glyphsOf done′) ++ drop (p′ .idx) (glyphsOf coming′)) ≡ p′ .d + (limit - p′ .idx) =
+    simp (length-append, length-drop) (omega arith) in
     let n : length (textOf done coming p .glyphs) ≡ length (textOf done′ coming′ p′ .glyphs) = ap (λ (t : Text). length (t .glyphs)) e in
     let x : p .idx ≡ p′ .idx = omega (arith, z .text-is) in
     λ j. record { d = d j; idx = x j }
 
 -- a match with the same positions and end is as good; its total isn't looked at
 usable-too : (idx : ℕ) (m m′ : InputMatch) → m .count ≡ m′ .count → placesOf m ≡ placesOf m′
-    → ((n total : ℕ) → m .answer ≡ InputAnswer.Matched n total → (total′ : ℕ) × (m′ .answer ≡ InputAnswer.Matched n total′)) → Usable idx m → Usable idx m′
+    → ((n total : ℕ) → m .answer ≡ InputAnswer.Matched n total → (total′ : ℕ) × (m′ .answer ≡ InputAnswer.Matched n total′)) → Usable idx m
+    → Usable idx m′
 usable-too idx m m′ n ps e u =
     let s = e (u .end) (u .total) (u .success) in
     let c = u .some in
@@ -189,7 +202,8 @@ usable-too idx m m′ n ps e u =
 module _ (h h′ : Handed) (s : SameText h h′) (a d : ℕ) (k : Acceptable h a d) where
   same-place : h .place ≡ h′ .place
   same-place =
-      place-by (h .done) (h .coming) (h′ .done) (h′ .coming) (h .place) (h′ .place) (fits-of h (k .shaped) (k .inside)) (k .inside) (s .done-long) (s .coming-long) (s .text)
+      place-by (h .done) (h .coming) (h′ .done) (h′ .coming) (h .place) (h′ .place) (fits-of h (k .shaped) (k .inside)) (k .inside) (s .done-long)
+      (s .coming-long) (s .text)
 
   acceptable-too : Acceptable h′ a d
   acceptable-too =
@@ -210,7 +224,8 @@ module _ (h h′ : Handed) (s : SameText h h′) (a d : ℕ) (k : Acceptable h a
         inside = omega arith;
         limited = k .limited;
         legible = subst Legible (s .book) (k .legible);
-        usable = subst (λ (n : ℕ). Usable n (h′ .match)) x (usable-too (h .place .idx) (h .match) (h′ .match) (s .count) (s .positions) (s .end) (k .usable));
+        usable = subst (λ (n : ℕ). Usable n (h′ .match)) x
+            (usable-too (h .place .idx) (h .match) (h′ .match) (s .count) (s .positions) (s .end) (k .usable));
       }
 
   -- the run is the same
@@ -218,11 +233,13 @@ module _ (h h′ : Handed) (s : SameText h h′) (a d : ℕ) (k : Acceptable h a
   same-stage =
       let u = k .usable in
       let q = same-place in
-      let x : matchEnd (h .match .answer) ≡ matchEnd (h′ .match .answer) = ap matchEnd (u .success) ∙ sym (ap matchEnd (s .end (u .end) (u .total) (u .success) .1)) in
+      let x : matchEnd (h .match .answer) ≡ matchEnd (h′ .match .answer) = ap matchEnd (u .success)
+      ∙ sym (ap matchEnd (s .end (u .end) (u .total) (u .success) .1)) in
       let first : movedLevel (h .place .idx) (h .place .d) (placesOf (h .match)) (matchEnd (h .match .answer))
       ≡ movedLevel (h′ .place .idx) (h′ .place .d) (placesOf (h′ .match)) (matchEnd (h′ .match .answer)) =
       λ j. movedLevel (q j .idx) (q j .d) (s .positions j) (x j) in
-      λ j. runOn (ruled (s .given j) (s .sets j)) (lookupsOf (s .book j)) d (recordsOf (s .records j)) (first j .positions) (first j .end) a (s .text j)
+      λ j. runOn (ruled (s .given j) (s .sets j)) (lookupsOf (s .book j)) d (recordsOf (s .records j)) (first j .positions) (first j .end) a
+      (s .text j)
 
 -- what a run that is Finished left, the same call over other rows with the text may leave
 handed-over : (h h′ : Handed) → SameText h h′ → (a d : ℕ) (l : Left) → Called h a d l → leftNumber l ≡ 0 → Called h′ a d l
@@ -231,7 +248,8 @@ handed-over h h′ s a d l c z =
     let k = accepted h a d (c .book-words) .0 (e .taken) in
     let w = subst Narrow (s .book) (c .book-words) in
     record {
-      said = said-whole (checkedAll h′ a d) (runSays h′ a d) (h′ .done) (h′ .coming) (l .done) (l .coming) (l .answer) (accepted h′ a d w .1 (acceptable-too h h′ s a d k))
+      said = said-whole (checkedAll h′ a d) (runSays h′ a d) (h′ .done) (h′ .coming) (l .done) (l .coming) (l .answer)
+          (accepted h′ a d w .1 (acceptable-too h h′ s a d k))
           (subst (λ (v : Stage). RunLeaves v (l .done) (l .coming) (l .answer)) (same-stage h h′ s a d k) (e .whole));
       done-words = c .done-words;
       coming-words = c .coming-words;
@@ -247,7 +265,8 @@ demand-3 h h′ s = record {
   one-less-short = λ a d s values l l′ c c′ z. less a d s (suc s) values l l′ c c′ z (omega arith);
 }
   where
-    less : (a d a′ n : ℕ) (values : List ℕ) (l l′ : Left) → Called h a d l → Called h′ a′ d l′ → repliesAs 0 (n ∷ values) l → a′ < n → leftNumber l′ ≡ 8
+    less : (a d a′ n : ℕ) (values : List ℕ) (l l′ : Left) → Called h a d l → Called h′ a′ d l′ → repliesAs 0 (n ∷ values) l → a′ < n
+        → leftNumber l′ ≡ 8
     less a d a′ n values l l′ c c′ z lt =
         let y : leftNumber l ≡ 0 = ap (λ (x : Reply). x .number) z in
         short-by h′ a d l (handed-over h h′ s a d l c y) y a′ l′ c′ (omega (arith, spent-first (l .answer) (l .answer .ending) n values refl z))

@@ -40,8 +40,8 @@ pub record Acceptable (h : Handed) (allowance depth : ℕ) : Type 0 where
 
 -- ---- calls
 
--- two calls of the same text: its glyphs and its cursor; and the match's positions and end, and all else that a run looks at. Cells in neither part may differ, and so
--- may a match's total and its slots past the count
+-- two calls of the same text: its glyphs and its cursor; and the match's positions and end, and all else that a run looks at. Cells in neither part
+-- may differ, and so may a match's total and its slots past the count
 pub record SameText (h h′ : Handed) : Type 0 where
   pub text : textOf (h .done) (h .coming) (h .place) ≡ textOf (h′ .done) (h′ .coming) (h′ .place)
   pub done-long : length (h .done) ≡ length (h′ .done)
@@ -77,8 +77,8 @@ Ends n = (n ≡ 0) ⊎ ((n ≡ 8) ⊎ ((n ≡ 9) ⊎ (n ≡ 10)))
 abbrev pub repliesAs : ℕ → List ℕ → Left → Type 0
 repliesAs number values l = runReply (l .answer) ≡ replies number values
 
--- a call: what the contract says of it; and, which is no contract's to say but what their types hold, that the words of the rows afterwards have 32 bits and
--- those of the book 16. Without it two rows that differ could be the same glyphs
+-- a call: what the contract says of it; and, which is no contract's to say but what their types hold, that the words of the rows afterwards have 32
+-- bits and those of the book 16. Without it two rows that differ could be the same glyphs
 pub record Called (h : Handed) (allowance depth : ℕ) (l : Left) : Type 0 where
   pub said : Said h allowance depth (l .done) (l .coming) (l .answer)
   pub done-words : Small (l .done)

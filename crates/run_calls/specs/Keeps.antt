@@ -1,4 +1,5 @@
--- A run touches no glyph before the match's first position, which is the cursor, and leaves rising positions (01, "Records over a text"), said of calls.
+-- A run touches no glyph before the match's first position, which is the cursor, and leaves rising positions (01, "Records over a text"), said of
+-- calls.
 -- Every chain of a book that reads matches in its text, so what is shown of any fair rules holds of the run.
 use mathlib.Core.Path.{_≡_, refl, sym, ap, ap₂, subst, _∙_}
 use mathlib.Core.Bool.{true}
@@ -100,7 +101,8 @@ module _ (h : Handed) where
     -- a field that is copied into what is written: its values after are those before, in their order
     fields-drawn : {X : Type 0} (f : Glyph → X) → Copied f written → Drawn f (t .glyphs) (textAfter l .glyphs)
     fields-drawn f k = subst (λ (u : Text). Drawn f (t .glyphs) (u .glyphs)) (sym (whole .holds .text))
-        (run-drawn (chainBy (h .given) (h .sets)) written (λ found. repaired) (lookupsOf (h .book)) d (recordsOf (h .records)) (first .positions) (first .end) a t f k)
+        (run-drawn (chainBy (h .given) (h .sets)) written (λ found. repaired) (lookupsOf (h .book)) d (recordsOf (h .records)) (first .positions)
+        (first .end) a t f k)
 
     -- every glyph after the call has the mask of some glyph before it
     pub masks-were-there : (i : ℕ) → i < length (textAfter l .glyphs) → Has mask (t .glyphs) (mask (getD (textAfter l .glyphs) i blank))

@@ -79,7 +79,8 @@ told-refused (Checked.Refused w) v done coming done′ coming′ r n s = (
   λ e. ap some (ap numberIn (sym (refused-reply r w (s .0)) ∙ e)),
   λ e. refused-reply r w (s .0) ∙ ap (λ (k : ℕ). replies k []) (Option·some-inj .0 e),
 )
-told-refused Checked.Accepted v done coming done′ coming′ r n s = (λ e. absurd (no-values v done′ coming′ r s n e), λ e. absurd (Option·none-ne-some n e))
+told-refused Checked.Accepted v done coming done′ coming′ r n s =
+    (λ e. absurd (no-values v done′ coming′ r s n e), λ e. absurd (Option·none-ne-some n e))
 
 -- an ending's number is that ending's
 pub told-ended : (k : Checked) (v : Stage) (done coming done′ coming′ : List ℕ) (r : RunAnswer) (e : Ending) → SaidBy k v done coming done′ coming′ r

@@ -1,5 +1,5 @@
--- The run's refusals as 01's table has them ("When the desk says no"): the code's tests tell the lines 1, 2, 12, 11 and 7, so a call is refused by the first line that
--- refuses, and accepted exactly when each lets pass (Order).
+-- The run's refusals as 01's table has them ("When the desk says no"): the code's tests tell the lines 1, 2, 12, 11 and 7, so a call is refused by
+-- the first line that refuses, and accepted exactly when each lets pass (Order).
 use mathlib.Core.Path.{_≡_, refl, sym, ap, subst, _∙_}
 use mathlib.Core.Bool.{Bool, true, false, cond, not, _&&_, _||_, true≢false}
 use mathlib.Core.List.{List, [], _∷_}
@@ -37,7 +37,10 @@ use Rattle.run.specs.Run.{mostAllowance, mostDepth}
 -- ---- the tests tell the lines
 
 long : (row : List ℕ) → (wrongLength row ≡ false) ↔ (length row ≡ words * limit)
-long row = (λ e. eqb-true (length row) (words * limit) (not-false (eqb (length row) (words * limit)) e), λ e. rw (eq-eqb (length row) (words * limit) e))
+long row = (
+  λ e. eqb-true (length row) (words * limit) (not-false (eqb (length row) (words * limit)) e),
+  λ e. rw (eq-eqb (length row) (words * limit) e),
+)
 
 module _ (done coming : List ℕ) (p : Place) (sets records : List ℕ) where
   abbrev bad1 : Bool
@@ -48,7 +51,8 @@ module _ (done coming : List ℕ) (p : Place) (sets records : List ℕ) where
       let r = both (oddSets records) (ltb (2 * mostRecords) (length records)) (paired records) (over (2 * mostRecords) (length records)) in
       let o = both (oddSets sets) (badRecords records) (paired sets) r in
       let d = both (ltb limit (p .d)) (ltb (p .idx) (p .d)) (over limit (p .d)) (over (p .idx) (p .d)) in
-      let u = both (wrongLength done) (wrongLength coming || (ltb limit (p .d) || ltb (p .idx) (p .d))) (long done) (both (wrongLength coming) (ltb limit (p .d) || ltb (p .idx) (p .d)) (long coming) d) in
+      let u = both (wrongLength done) (wrongLength coming || (ltb limit (p .d) || ltb (p .idx) (p .d))) (long done)
+      (both (wrongLength coming) (ltb limit (p .d) || ltb (p .idx) (p .d)) (long coming) d) in
       let all = both (unfit done coming p) (oddSets sets || badRecords records) u o in (
         λ e. let h = all .0 e in record {
           done-long = h .0 .0;
@@ -59,7 +63,8 @@ module _ (done coming : List ℕ) (p : Place) (sets records : List ℕ) where
           records-paired = h .1 .1 .0;
           records-few = h .1 .1 .1;
         },
-        λ s. let t = s .text-inside in let i = s .d-inside in all .1 ((s .done-long, (s .coming-long, (i, omega arith))), (s .sets-paired, (s .records-paired, s .records-few))),
+        λ s. let t = s .text-inside in let i = s .d-inside in
+            all .1 ((s .done-long, (s .coming-long, (i, omega arith))), (s .sets-paired, (s .records-paired, s .records-few))),
       )
 
 module _ (allowance depth : ℕ) where
@@ -186,11 +191,13 @@ module _ (idx : ℕ) (m : InputMatch) where
   number-7 : checkedNumber (checkedMatch idx m) ≡ cond bad7 (some 7) none
   number-7 = by (m .answer)
     where
-      good : (g : Bool) → checkedNumber (cond g Checked.Accepted (Checked.Refused Match)) ≡ cond (isRefused (cond g Checked.Accepted (Checked.Refused Match))) (some 7) none
+      good : (g : Bool) → checkedNumber (cond g Checked.Accepted (Checked.Refused Match))
+          ≡ cond (isRefused (cond g Checked.Accepted (Checked.Refused Match))) (some 7) none
       good true = refl
       good false = refl
 
-      by : (a : InputAnswer) → checkedNumber (checkedPlaces idx a (m .count) (m .positions)) ≡ cond (isRefused (checkedPlaces idx a (m .count) (m .positions))) (some 7) none
+      by : (a : InputAnswer) → checkedNumber (checkedPlaces idx a (m .count) (m .positions))
+          ≡ cond (isRefused (checkedPlaces idx a (m .count) (m .positions))) (some 7) none
       by (InputAnswer.Matched end total) = good (goodPlaces idx end (m .count) (m .positions))
       by (InputAnswer.Refused why) = refl
       by (InputAnswer.Lost extent) = refl
@@ -200,7 +207,8 @@ module _ (idx : ℕ) (m : InputMatch) where
 
 -- the tests, one after another
 in-order : (a b c r z : Bool) (k : Checked) → checkedNumber k ≡ cond z (some 7) none
-    → checkedNumber (then (cond a (Checked.Refused Shape) (cond b (Checked.Refused Cursor) (cond c (Checked.Refused Limits) Checked.Accepted))) (then (cond r Checked.Accepted (Checked.Refused Book)) k))
+    → checkedNumber (then (cond a (Checked.Refused Shape) (cond b (Checked.Refused Cursor) (cond c (Checked.Refused Limits) Checked.Accepted)))
+    (then (cond r Checked.Accepted (Checked.Refused Book)) k))
     ≡ cond a (some 1) (cond b (some 2) (cond c (some 12) (cond (not r) (some 11) (cond z (some 7) none))))
 in-order true b c r z k e = refl
 in-order false true c r z k e = refl
@@ -217,17 +225,28 @@ module _ (h : Handed) (allowance depth : ℕ) (w : Narrow (h .book)) where
   -- 01's lines in their order, each with the code's test
   abbrev tests : List Tested
   tests =
-      record { test = bad1 (h .done) (h .coming) (h .place) (h .sets) (h .records); line = record { number = 1; lets = ShapedOf h }; tells = shaped (h .done) (h .coming) (h .place) (h .sets) (h .records) }
+      record {
+        test = bad1 (h .done) (h .coming) (h .place) (h .sets) (h .records);
+        line = record { number = 1; lets = ShapedOf h };
+        tells =
+            shaped (h .done) (h .coming) (h .place) (h .sets) (h .records);
+      }
       ∷ record { test = pastEnd (h .place); line = record { number = 2; lets = CursorInside (h .place) }; tells = at-or-past limit (h .place .idx) }
       ∷ record { test = bad12 allowance depth; line = record { number = 12; lets = Limited allowance depth }; tells = limited allowance depth }
       ∷ record { test = not (isRead (readBook (h .book))); line = record { number = 11; lets = Legible (h .book) }; tells = legible (h .book) w }
-      ∷ record { test = bad7 (h .place .idx) (h .match); line = record { number = 7; lets = Usable (h .place .idx) (h .match) }; tells = usable (h .place .idx) (h .match) }
+      ∷ record {
+        test = bad7 (h .place .idx) (h .match);
+        line = record { number = 7; lets = Usable (h .place .idx) (h .match) };
+        tells =
+            usable (h .place .idx) (h .match);
+      }
       ∷ []
 
   first : checkedNumber (checkedAll h allowance depth) ≡ firstAnswer (testsOf tests)
   unfolding checkedAll checkedFirst firstAnswer
   first =
-      in-order (bad1 (h .done) (h .coming) (h .place) (h .sets) (h .records)) (pastEnd (h .place)) (bad12 allowance depth) (isRead (readBook (h .book))) (bad7 (h .place .idx) (h .match))
+      in-order (bad1 (h .done) (h .coming) (h .place) (h .sets) (h .records)) (pastEnd (h .place)) (bad12 allowance depth)
+      (isRead (readBook (h .book))) (bad7 (h .place .idx) (h .match))
       (checkedMatch (h .place .idx) (h .match)) (number-7 (h .place .idx) (h .match))
 
   -- refused by the first line that refuses
@@ -239,7 +258,8 @@ module _ (h : Handed) (allowance depth : ℕ) (w : Narrow (h .book)) where
   accepted =
       let k = accepted-by (checkedAll h allowance depth) in
       let t = through-exactly tests in (
-        λ e. let s = t .0 (sym first ∙ k .0 e) in record { shaped = s .0; inside = s .1 .0; limited = s .1 .1 .0; legible = s .1 .1 .1 .0; usable = s .1 .1 .1 .1 .0 },
+        λ e. let s = t .0 (sym first ∙ k .0 e) in
+            record { shaped = s .0; inside = s .1 .0; limited = s .1 .1 .0; legible = s .1 .1 .1 .0; usable = s .1 .1 .1 .1 .0 },
         λ s. k .1 (first ∙ t .1 (s .shaped, (s .inside, (s .limited, (s .legible, (s .usable, tt)))))),
       )
 
@@ -248,5 +268,6 @@ pub fits-of : (h : Handed) → ShapedOf h → CursorInside (h .place) → Fits (
 fits-of h s i = let u = s .text-inside in record { long = s .done-long; wide = s .coming-long; within = omega arith; room = omega arith }
 
 -- what a call leaves that is accepted
-pub leaves : (h : Handed) (a d : ℕ) (l : Left) → Called h a d l → checkedAll h a d ≡ Checked.Accepted → RunLeaves (runSays h a d) (l .done) (l .coming) (l .answer)
+pub leaves : (h : Handed) (a d : ℕ) (l : Left) → Called h a d l → checkedAll h a d ≡ Checked.Accepted
+    → RunLeaves (runSays h a d) (l .done) (l .coming) (l .answer)
 leaves h a d l c e = subst (λ (k : Checked). SaidBy k (runSays h a d) (h .done) (h .coming) (l .done) (l .coming) (l .answer)) e (c .said)

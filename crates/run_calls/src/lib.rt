@@ -17,7 +17,8 @@ ghost use Rattle.run.specs.Run.{begun, chainRun, mostAllowance};
 ghost use Rattle.run.specs.Deeds.{ruled};
 ghost use Rattle.run_positions.specs.Slots.{levelOf, Neat};
 ghost use Rattle.run_cycle.specs.Levels.{Indexed};
-ghost use Rattle.run_calls.specs.Calls.{badRecords, checkedFirst, checkedMatch, risesTo, goodPlaces, refusedBy, RunLeaves, runSays, SaidBy, Said};
+ghost use Rattle.run_calls.specs.Calls.{badRecords, checkedFirst, checkedMatch, risesTo, goodPlaces};
+ghost use Rattle.run_calls.specs.Calls.{refusedBy, RunLeaves, runSays, SaidBy, Said};
 ghost use Rattle.run.specs.Repair.{Sound};
 
 // Allowance and depth of a run, at most.
@@ -40,7 +41,8 @@ pub enum Checked {
     Refused(RunRefusal),
 }
 
-// A run of records over a text: `done` holds its first d glyphs, `coming` ends with the others, from glyph idx on. The match handed in counts places in `coming`.
+// A run of records over a text: `done` holds its first d glyphs, `coming` ends with the others, from glyph idx on. The match handed in counts places
+// in `coming`.
 pub fn run(
     done: &mut [u32],
     coming: &mut [u32],
@@ -255,9 +257,11 @@ fn go(
     allowance: u32,
     depth: usize,
 ) -> RunAnswer
-    requires { ⌜ Indexed (now book) (now starts) count × Fits (now done) (now coming) place × (allowance ≤ mostAllowance) × Neat m × Sound 0 (length (textOf (now done) (now coming) place .glyphs)) (levelOf m) ⌝ }
+    requires { ⌜ Indexed (now book) (now starts) count × Fits (now done) (now coming) place × (allowance ≤ mostAllowance) × Neat m
+        × Sound 0 (length (textOf (now done) (now coming) place .glyphs)) (levelOf m) ⌝ }
     ensures { λ r. ⌜ RunLeaves (chainRun (ruled given (now (sets .entry))) (lookupsOf (now (book .entry))) depth (recordsOf (now (records .entry)))
-        (record { level = levelOf m; run = begun allowance (textOf (now (done .entry)) (now (coming .entry)) place) })) (now (done .exit)) (now (coming .exit)) r ⌝ }
+        (record { level = levelOf m; run = begun allowance (textOf (now (done .entry)) (now (coming .entry)) place) })) (now (done .exit))
+        (now (coming .exit)) r ⌝ }
 {
     let s = run_step::begin(place, allowance);
     let r = run_cycle::chain(

@@ -26,11 +26,12 @@ abbrev pub noAim : Aim
 noAim = record { hit = false; level = shown noLevel; records = record { from = 0; to = 0 } }
 
 abbrev pub aimAt : Part → Match → Aim
-aimAt records (Matched positions end) = record { hit = true; level = shown (record { live = true; positions = positions; end = end }); records = records }
+aimAt records (Matched positions end) =
+    record { hit = true; level = shown (record { live = true; positions = positions; end = end }); records = records }
 aimAt records Unmatched = noAim
 
--- a chain as it is handed over, in parts: the values of each by the part's own test, the first glyph's by the input's, with the words lent beside them,
--- which are the book's, so that its records stand there too
+-- a chain as it is handed over, in parts: the values of each by the part's own test, the first glyph's by the input's, with the words lent beside
+-- them, which are the book's, so that its records stand there too
 abbrev pub handedChain : Tests → List ℕ → ℕ → List ℕ → List ℕ → List ℕ → Part → Chain Asked
 handedChain tests lists first back input onward records = record {
   first = valueBy (tests .input) lists first;

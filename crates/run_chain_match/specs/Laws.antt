@@ -45,7 +45,8 @@ values-are wide values e =
 
 -- what the rows answer for values by a test, as for what they ask
 module _ (q : Terms) (sets : List ℕ) (test : ℕ → Asked) (C : List Glyph) (values wide : List ℕ) (e : wide ≡ widened values) where
-  pub input-told : (before : List Glyph) (idx : ℕ) (m : InputMatch) → m ≡ inputTold C idx (inputOn q sets test before C idx (take (length values - 0) wide))
+  pub input-told : (before : List Glyph) (idx : ℕ) (m : InputMatch) → m ≡ inputTold C idx
+      (inputOn q sets test before C idx (take (length values - 0) wide))
       → m ≡ inputTold C idx (inputOn q sets itself before C idx (map test values))
   input-told before idx m h =
       h ∙ ap (λ (v : List ℕ). inputTold C idx (inputOn q sets test before C idx v)) (values-are wide values e)
@@ -69,7 +70,8 @@ module _ (q : Terms) (sets : List ℕ) (test : ℕ → Asked) (C : List Glyph) (
 
 -- no values are always there
 module _ (q : Terms) (sets : List ℕ) (test : ℕ → Asked) (C : List Glyph) where
-  pub no-ahead : (start syllable : ℕ) (values : List ℕ) → length values ≡ 0 → true ≡ isTaken (aheadOn q sets itself C start syllable (map test values))
+  pub no-ahead : (start syllable : ℕ) (values : List ℕ) → length values ≡ 0 → true
+      ≡ isTaken (aheadOn q sets itself C start syllable (map test values))
   unfolding aheadOn takes
   no-ahead start syllable [] e = refl
   no-ahead start syllable (x ∷ xs) e = absurd (omega arith)
@@ -92,8 +94,10 @@ module _ (done coming : List ℕ) (p : Place) (f : Fits done coming p) (q : Term
   aim-other n = rw (first-is, n)
 
   module _ (same : isYes (k .first g) ≡ true) (m : InputMatch)
-      (m-is : m ≡ inputTold (glyphsOf coming) (p .idx) (inputOn q sets itself (take (p .d) (glyphsOf done)) (glyphsOf coming) (p .idx) (k .input))) where
-    matched-is : chainMatch q sets (textOf done coming p) k ≡ afterInput q sets (textOf done coming p) k (inputAt q sets (textOf done coming p) (k .input))
+      (m-is : m ≡ inputTold (glyphsOf coming) (p .idx)
+      (inputOn q sets itself (take (p .d) (glyphsOf done)) (glyphsOf coming) (p .idx) (k .input))) where
+    matched-is : chainMatch q sets (textOf done coming p) k ≡ afterInput q sets (textOf done coming p) k
+        (inputAt q sets (textOf done coming p) (k .input))
     unfolding chainMatch
     matched-is = rw (first-is, same)
 
@@ -129,7 +133,8 @@ module _ (done coming : List ℕ) (p : Place) (f : Fits done coming p) (q : Term
       pub aim-ahead : aheadIs ≡ true → backIs ≡ false → noAim ≡ told
       aim-ahead h n = sym (by-context ∙ rw (h, n))
 
-      pub aim-hit : aheadIs ≡ true → backIs ≡ true → (lv : Slots) → lv ≡ shown opens → _≡_ {A = Aim} (record { hit = true; level = lv; records = records }) told
+      pub aim-hit : aheadIs ≡ true → backIs ≡ true → (lv : Slots) → lv ≡ shown opens
+          → _≡_ {A = Aim} (record { hit = true; level = lv; records = records }) told
       aim-hit h n lv e = sym (by-context ∙ rw (h, n) (λ j. record { hit = true; level = sym e j; records = records }))
 
       -- what opening a level asks
@@ -149,7 +154,8 @@ module _ (done coming : List ℕ) (p : Place) (f : Fits done coming p) (q : Term
 
 -- the chain of an entry: an equal id is asked by the test of that name, whatever words are lent beside it
 pub aim-chain : (given : Given) (sets ws : List ℕ) (t : Text) (props : ℕ) (c : ChainParts) (q : Terms) → q ≡ asks given props
-    → aimAt (c .records) (chainMatch q sets t (handedChain byId ws (c .first) (partOf ws (c .backtrack)) (partOf ws (c .input)) (partOf ws (c .lookahead)) (c .records)))
+    → aimAt (c .records) (chainMatch q sets t
+    (handedChain byId ws (c .first) (partOf ws (c .backtrack)) (partOf ws (c .input)) (partOf ws (c .lookahead)) (c .records)))
     ≡ aimedAt given sets ws (Entry.Chain props c) t
 unfolding chainMatch valueBy
 aim-chain given sets ws t props c q e =

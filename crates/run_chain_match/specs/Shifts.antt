@@ -121,12 +121,14 @@ module _ (done coming : List ℕ) (p : Place) (f : Fits done coming p) (q : Term
           many = refl;
         }
 
-    shown-by : (o : Outcome) → from₀ values ≡ o → isMatched (inputTold C (p .idx) (raisedBy (p .idx) o) .answer) ≡ true → Shown values (inputTold C (p .idx) (raisedBy (p .idx) o))
+    shown-by : (o : Outcome) → from₀ values ≡ o → isMatched (inputTold C (p .idx) (raisedBy (p .idx) o) .answer) ≡ true
+        → Shown values (inputTold C (p .idx) (raisedBy (p .idx) o))
     shown-by (taken qs) e h = taken-shown qs e
     shown-by (lost extent) e h = absurd (true-false (sym h))
     shown-by unlike e h = absurd (true-false (sym h))
 
-    pub input-shown : (m : InputMatch) → m ≡ inputTold C (p .idx) (inputOn q sets itself D C (p .idx) values) → isMatched (m .answer) ≡ true → Shown values m
+    pub input-shown : (m : InputMatch) → m ≡ inputTold C (p .idx) (inputOn q sets itself D C (p .idx) values) → isMatched (m .answer) ≡ true
+        → Shown values m
     input-shown m e h =
         let r : m ≡ inputTold C (p .idx) (raisedBy (p .idx) (from₀ values)) = e ∙ ap (inputTold C (p .idx)) (row-input values) in
         rw r (shown-by (from₀ values) refl (rw r at h))
@@ -152,7 +154,8 @@ module _ (done coming : List ℕ) (p : Place) (f : Fits done coming p) (q : Term
     syllable-is : getD (t .glyphs) (p .d) blank .syllable ≡ g .syllable
     syllable-is = ap (λ (x : Glyph). x .syllable) (at-cursor f ∙ sym is)
 
-    ahead-is : (onward : List Asked) → isTaken (aheadAt q sets (textOf done coming p) (endAfter q sets (textOf done coming p) (raisedAll (p .d) qs)) onward)
+    ahead-is : (onward : List Asked)
+        → isTaken (aheadAt q sets (textOf done coming p) (endAfter q sets (textOf done coming p) (raisedAll (p .d) qs)) onward)
         ≡ isTaken (aheadOn q sets itself C (p .idx + R qs) (g .syllable) onward)
     ahead-is onward =
         let z = sizes done coming p f in
@@ -172,14 +175,16 @@ module _ (done coming : List ℕ) (p : Place) (f : Fits done coming p) (q : Term
     -- the match in the text, by what was asked of the rows
     pub context-is : (k : Chain Asked) → inputOn q sets itself D part 0 (k .input) ≡ taken qs
         → afterInput q sets (textOf done coming p) k (inputAt q sets (textOf done coming p) (k .input))
-        ≡ cond (isTaken (aheadOn q sets itself C (p .idx + R qs) (g .syllable) (k .lookahead)) && isTaken (backOn q sets itself D (g .syllable) (k .backtrack)))
+        ≡ cond (isTaken (aheadOn q sets itself C (p .idx + R qs) (g .syllable) (k .lookahead))
+        && isTaken (backOn q sets itself D (g .syllable) (k .backtrack)))
         (Matched (p .d ∷ raisedAll (p .d) qs) (p .d + R qs)) Unmatched
     context-is k e =
         let u : Text = textOf done coming p in
         ap (afterInput q sets (textOf done coming p) k) (text-input (k .input) ∙ ap (raisedBy (p .d)) e)
         ∙ ap₂ (λ (a b : Bool). cond (a && b) (Matched (p .d ∷ raisedAll (p .d) qs) (endAfter q sets u (raisedAll (p .d) qs))) Unmatched)
         (ahead-is (k .lookahead)) (back-is (k .backtrack))
-        ∙ ap (λ (n : ℕ). cond (isTaken (aheadOn q sets itself C (p .idx + R qs) (g .syllable) (k .lookahead)) && isTaken (backOn q sets itself D (g .syllable) (k .backtrack)))
+        ∙ ap (λ (n : ℕ). cond (isTaken (aheadOn q sets itself C (p .idx + R qs) (g .syllable) (k .lookahead))
+        && isTaken (backOn q sets itself D (g .syllable) (k .backtrack)))
         (Matched (p .d ∷ raisedAll (p .d) qs) n) Unmatched) (text-end qs)
 
   -- the level that the match opens

@@ -195,7 +195,8 @@ fn match_chain(
     onward: &[u16],
     records: Part,
 ) -> Aim
-    requires { ⌜ Fits (now done) (now coming) p × (p .idx < limit) × (length (now back) ≤ 64) × (length (now input) ≤ 63) × (length (now onward) ≤ 64) ⌝ }
+    requires { ⌜ Fits (now done) (now coming) p × (p .idx < limit) × (length (now back) ≤ 64) × (length (now input) ≤ 63)
+        × (length (now onward) ≤ 64) ⌝ }
     ensures { λ r. ⌜ r ≡ aimAt records (chainMatch q (now (sets .entry)) (textOf (now (done .entry)) (now (coming .entry)) p)
         (handedChain tests (now (lists .entry)) first (now (back .entry)) (now (input .entry)) (now (onward .entry)) records)) ⌝ }
 {

@@ -37,7 +37,8 @@ use Rattle.run_cycle.specs.Levels.{Indexed}
 few-input : (ws : List ℕ) (c : ChainParts) → PartInside (length ws) mostInput (c .input) → length (chainOf ws c .input) ≤ mostInput
 few-input ws c i = simp (length-take, length-drop) (omega (arith, i .few))
 
-few-by : (ws : List ℕ) (e : Entry) (props : ℕ) (c : Chain ℕ) → EntryInside (length ws) e → meant ws e ≡ Is (Kind3 props c) → length (c .input) ≤ mostInput
+few-by : (ws : List ℕ) (e : Entry) (props : ℕ) (c : Chain ℕ) → EntryInside (length ws) e → meant ws e ≡ Is (Kind3 props c)
+    → length (c .input) ≤ mostInput
 few-by ws (Entry.Chain props′ parts) props c g e =
     let q : chainOf ws parts ≡ c = cc in
     subst (λ (k : Chain ℕ). length (k .input) ≤ mostInput) q (few-input ws parts (g .input))
@@ -53,11 +54,13 @@ module _ {ws starts : List ℕ} {count : ℕ} (x : Indexed ws starts count) wher
   entry-good k = found-inside ws starts count k
 
   pub book-fair : (given : Given) (sets : List ℕ) → Fair (ruled given sets) (lookupsOf ws)
-  book-fair given sets = ruled-fair given sets (lookupsOf ws) (λ k props c e. few-by ws (foundIn ws starts count k) props c (entry-good k) (entry-meant k ∙ e))
+  book-fair given sets = ruled-fair given sets (lookupsOf ws)
+      (λ k props c e. few-by ws (foundIn ws starts count k) props c (entry-good k) (entry-meant k ∙ e))
 
   -- the deed of the entry that was found is lookup k's
   pub entry-run : (given : Given) (sets : List ℕ) (depth k : ℕ) (e : Entry) → e ≡ foundIn ws starts count k → (y : Run)
-      → doneBy (chainRun (ruled given sets) (lookupsOf ws) depth) (ruled given sets .deed (meant ws e)) y ≡ lookupRun (ruled given sets) (lookupsOf ws) depth k y
+      → doneBy (chainRun (ruled given sets) (lookupsOf ws) depth) (ruled given sets .deed (meant ws e)) y
+      ≡ lookupRun (ruled given sets) (lookupsOf ws) depth k y
   entry-run given sets depth k e is y =
       ap (λ (f : Found). doneBy (chainRun (ruled given sets) (lookupsOf ws) depth) (ruled given sets .deed f) y) (ap (meant ws) is ∙ entry-meant k)
 
@@ -106,7 +109,8 @@ module _ (given : Given) (sets ws : List ℕ) (depth : ℕ) (done coming : List 
   matched props c = chainBy given sets props (idsOf (chainOf ws c)) (textOf done coming (s .place))
 
   hit-by : (b : Entry) → aimed b .hit ≡ true
-      → levelRun (recordsOf (partOf ws (aimed b .records))) (stageOf done coming s (aimed b .level)) .run ≡ doneBy levelRun (ruled given sets .deed (meant ws b)) run
+      → levelRun (recordsOf (partOf ws (aimed b .records))) (stageOf done coming s (aimed b .level)) .run
+      ≡ doneBy levelRun (ruled given sets .deed (meant ws b)) run
   unfolding deedBy
   hit-by (Entry.Chain props c) h = hit-match (c .records) (matched props c) h
   hit-by (Entry.One props from to) h = let z : _≡_ {A = ℕ} 0 1 = cc in absurd (omega arith)
@@ -127,22 +131,31 @@ module _ (given : Given) (sets ws : List ℕ) (depth : ℕ) (done coming : List 
     pub ordered : a .records .from ≤ a .records .to
     pub within : a .records .to ≤ length ws
 
-  opens-match : (records : Part) (m : Match) → aimAt records m .hit ≡ true → Fitting (textOf done coming (s .place)) m → PartInside (length ws) (2 * mostRecords) records
+  opens-match : (records : Part) (m : Match) → aimAt records m .hit ≡ true → Fitting (textOf done coming (s .place)) m
+      → PartInside (length ws) (2 * mostRecords) records
       → Opens (aimAt records m)
   opens-match records (Matched ps end) h fit i =
       let lv : Level = record { live = true; positions = ps; end = end } in
       record {
         neat = shown-neat lv;
-        sound = rw (level-shown lv) (record { few = fit .few; rises = rises-wider 0 end (omega arith) (omega arith) (fit .rises); begins = omega arith; within = fit .within });
+        sound = rw (level-shown lv) (record {
+          few = fit .few;
+          rises = rises-wider 0 end (omega arith) (omega arith) (fit .rises);
+          begins =
+              omega arith;
+          within = fit .within;
+        });
         ordered = i .ordered;
         within = i .within;
       }
   opens-match records Unmatched h fit i = let z : _≡_ {A = ℕ} 0 1 = cc in absurd (omega arith)
 
-  opens-by : (b : Entry) → EntryInside (length ws) b → s .place .d < length (textOf done coming (s .place) .glyphs) → aimed b .hit ≡ true → Opens (aimed b)
+  opens-by : (b : Entry) → EntryInside (length ws) b → s .place .d < length (textOf done coming (s .place) .glyphs) → aimed b .hit ≡ true
+      → Opens (aimed b)
   opens-by (Entry.Chain props c) g h y =
       opens-match (c .records) (matched props c) y
-      (chain-fitting (asks given props) sets (textOf done coming (s .place)) h (idsOf (chainOf ws c)) (few-ids (chainOf ws c) (few-input ws c (g .input)))) (g .records)
+      (chain-fitting (asks given props) sets (textOf done coming (s .place)) h (idsOf (chainOf ws c))
+      (few-ids (chainOf ws c) (few-input ws c (g .input)))) (g .records)
   opens-by (Entry.One props from to) g h y = let z : _≡_ {A = ℕ} 0 1 = cc in absurd (omega arith)
   opens-by (Entry.Many props from ids) g h y = let z : _≡_ {A = ℕ} 0 1 = cc in absurd (omega arith)
   opens-by Entry.Missing g h y = let z : _≡_ {A = ℕ} 0 1 = cc in absurd (omega arith)

@@ -13,7 +13,8 @@ use Rattle.book.specs.Book.{Record, Lookup, recordsOf, lookupsOf}
 use Rattle.book.specs.Records.{records-step, records-end}
 use Rattle.run.specs.declared.Given.{Given}
 use Rattle.run.specs.Repair.{Level, repaired, Sound}
-use Rattle.run.specs.Run.{Run, Stage, Effect, size, changed, when, placeOf, isDue, isOver, arrived, spending, followedBy, triedBy, dueBy, stepBy, recordsBy, closed, acting, mending, chainRun, lookupRun, mostAllowance}
+use Rattle.run.specs.Run.{Run, Stage, Effect, size, changed, when, placeOf, isDue, isOver, arrived, spending}
+use Rattle.run.specs.Run.{followedBy, triedBy, dueBy, stepBy, recordsBy, closed, acting, mending, chainRun, lookupRun, mostAllowance}
 use Rattle.run.specs.Rises.{repaired-mends}
 use Rattle.run.specs.Kept as kept
 use Rattle.run.specs.Kept.{Kept, Keeps, Due, step-good, lookup-keeps, due-shows, records-good}
@@ -37,17 +38,20 @@ recordAt recs i = record { seq = getD recs i 0; lookup = getD recs (i + 1) 0 }
 abbrev tryIt : (ℕ → Effect) → Record → Stage → Stage
 tryIt effects r w = followedBy (effects (r .lookup) .repair) r w (effects (r .lookup) .does (w .run))
 
-judged-tries : (effects : ℕ → Effect) (depth l : ℕ) (r : Record) (v : Stage) → triedBy effects depth l r v ≡ when (judged depth l v .go) (tryIt effects r) (judged depth l v .stage)
+judged-tries : (effects : ℕ → Effect) (depth l : ℕ) (r : Record) (v : Stage)
+    → triedBy effects depth l r v ≡ when (judged depth l v .go) (tryIt effects r) (judged depth l v .stage)
 unfolding triedBy judged
 judged-tries effects depth zero r v = refl
 judged-tries effects zero (suc l) r v = refl
 judged-tries effects (suc depth) (suc l) r v = refl
 
-step-is : (effects : ℕ → Effect) (depth : ℕ) (r : Record) (v : Stage) → stepBy effects depth r v ≡ when (readied depth r v .go) (tryIt effects r) (readied depth r v .stage)
+step-is : (effects : ℕ → Effect) (depth : ℕ) (r : Record) (v : Stage) → stepBy effects depth r v
+    ≡ when (readied depth r v .go) (tryIt effects r) (readied depth r v .stage)
 step-is effects depth r v = by (isDue r v)
   where
     by : (b : Bool) → when b (dueBy effects depth r) v
-        ≡ when (cond b (judged depth (v .run .tally .left) (arrived r v)) (record { go = false; stage = v }) .go) (tryIt effects r) (cond b (judged depth (v .run .tally .left) (arrived r v)) (record { go = false; stage = v }) .stage)
+        ≡ when (cond b (judged depth (v .run .tally .left) (arrived r v)) (record { go = false; stage = v }) .go) (tryIt effects r)
+        (cond b (judged depth (v .run .tally .left) (arrived r v)) (record { go = false; stage = v }) .stage)
     by true = judged-tries effects depth (v .run .tally .left) r (arrived r v)
     by false = refl
 
@@ -158,12 +162,14 @@ module _ (given : Given) (sets ws : List ℕ) where
 
     -- after a step the code can count on the same
     pub still-able : (d : ℕ) (r : Record) (done coming : List ℕ) (s : State) (lv : Slots) (done₂ coming₂ : List ℕ) (s₂ : State) (lv₂ : Slots)
-        → Able done coming s lv → stageOf done₂ coming₂ s₂ lv₂ ≡ stepBy (nestedAt d) d r (stageOf done coming s lv) → Neat lv₂ → Fits done₂ coming₂ (s₂ .place) → Able done₂ coming₂ s₂ lv₂
+        → Able done coming s lv → stageOf done₂ coming₂ s₂ lv₂ ≡ stepBy (nestedAt d) d r (stageOf done coming s lv) → Neat lv₂
+        → Fits done₂ coming₂ (s₂ .place) → Able done₂ coming₂ s₂ lv₂
     still-able d r done coming s lv done₂ coming₂ s₂ lv₂ a e neat f =
         let v : Stage = stageOf done coming s lv in
         let sum : s₂ .left + s₂ .spent ≡ s .left + s .spent =
         ap (λ (w : Stage). w .run .tally .left + w .run .tally .spent) e ∙ step-adds (nestedAt d) (nested-adds d) d r v in
-        let g = step-good (nestedAt d) (nested-keeps d) (λ k. repaired-mends) d r 0 (runOf done coming s) v (record { level = a .sound; kept = record { before = refl; long = omega arith } }) in
+        let g = step-good (nestedAt d) (nested-keeps d) (λ k. repaired-mends) d r 0 (runOf done coming s) v
+        (record { level = a .sound; kept = record { before = refl; long = omega arith } }) in
         record {
           fits = f;
           few = omega (arith, a .few);
@@ -173,17 +179,20 @@ module _ (given : Given) (sets ws : List ℕ) where
 
   -- ---- a turn
 
-  module _ (depth : ℕ) (recs : List ℕ) (i : ℕ) (lt : i + 1 < length recs) (done coming : List ℕ) (s : State) (lv : Slots) (able : Able done coming s lv) (done₁ coming₁ : List ℕ) (y : Ready)
+  module _ (depth : ℕ) (recs : List ℕ) (i : ℕ) (lt : i + 1 < length recs) (done coming : List ℕ) (s : State) (lv : Slots)
+      (able : Able done coming s lv) (done₁ coming₁ : List ℕ) (y : Ready)
       (p : Prepared (readied depth (at (getD recs i 0)) (stageOf done coming s lv)) done₁ coming₁ y) where
     abbrev r : Record
     r = recordAt recs i
 
     -- a record whose lookup isn't tried
-    pub turn-rest : y .go ≡ false → stageOf done₁ coming₁ (y .state) (y .level) ≡ stepBy (nestedAt depth) depth (recordAt recs i) (stageOf done coming s lv)
+    pub turn-rest : y .go ≡ false → stageOf done₁ coming₁ (y .state) (y .level)
+        ≡ stepBy (nestedAt depth) depth (recordAt recs i) (stageOf done coming s lv)
     turn-rest g =
         let q : readied depth r (stageOf done coming s lv) .go ≡ false = sym (p .go) ∙ g in
         ready-stage depth r done coming s lv able done₁ coming₁ y p
-        ∙ sym (step-is (nestedAt depth) depth r (stageOf done coming s lv) ∙ ap (λ (b : Bool). when b (tryIt (nestedAt depth) r) (readied depth r (stageOf done coming s lv) .stage)) q)
+        ∙ sym (step-is (nestedAt depth) depth r (stageOf done coming s lv)
+        ∙ ap (λ (b : Bool). when b (tryIt (nestedAt depth) r) (readied depth r (stageOf done coming s lv) .stage)) q)
 
     -- a record whose lookup is tried, and the repair
     pub turn-go : y .go ≡ true → (done₂ coming₂ : List ℕ) (s₂ : State) (lv₂ : Slots)
@@ -200,7 +209,8 @@ module _ (given : Given) (sets ws : List ℕ) where
         let lev : levelOf lv₂ ≡ repaired (getD recs i 0) (size (w .run)) (size (runOf done₂ coming₂ s₂)) (levelOf (y .level)) =
         ap levelOf l ∙ level-shown _
         ∙ ap₂ (λ (a b : ℕ). repaired (getD recs i 0) a b (levelOf (y .level))) (sym (size-is (p .ran .fits))) (sym (size-is (ran .fits))) in
-        let both : stageOf done₂ coming₂ s₂ lv₂ ≡ followedBy repaired r w (runOf done₂ coming₂ s₂) = λ j. record { level = lev j; run = runOf done₂ coming₂ s₂ } in
+        let both : stageOf done₂ coming₂ s₂ lv₂ ≡ followedBy repaired r w (runOf done₂ coming₂ s₂) =
+        λ j. record { level = lev j; run = runOf done₂ coming₂ s₂ } in
         both ∙ ap (followedBy repaired r w) run₂
         ∙ ap (tryIt (nestedAt depth) r) (ready-stage depth r done coming s lv able done₁ coming₁ y p)
         ∙ sym (step-is (nestedAt depth) depth r v₀ ∙ ap (λ (b : Bool). when b (tryIt (nestedAt depth) r) (readied depth r v₀ .stage)) q)
@@ -213,7 +223,8 @@ module _ (given : Given) (sets ws : List ℕ) where
       ap (recordsBy (nestedAt depth) depth (recordsOf (drop (i + 2) recs))) e
       ∙ sym (ap (λ (rs : List Record). recordsBy (nestedAt depth) depth rs v) (records-step recs i lt))
 
-  pub records-over : (depth : ℕ) (recs : List ℕ) (i : ℕ) (v : Stage) → length recs ≤ i + 1 → recordsBy (nestedAt depth) depth (recordsOf (drop i recs)) v ≡ v
+  pub records-over : (depth : ℕ) (recs : List ℕ) (i : ℕ) (v : Stage) → length recs ≤ i + 1
+      → recordsBy (nestedAt depth) depth (recordsOf (drop i recs)) v ≡ v
   unfolding recordsBy
   records-over depth recs i v h = ap (λ (rs : List Record). recordsBy (nestedAt depth) depth rs v) (records-end recs i h)
 
@@ -221,14 +232,17 @@ module _ (given : Given) (sets ws : List ℕ) where
   pub closed-is : (depth : ℕ) (rs : List Record) (v w : Stage) → w ≡ recordsBy (nestedAt depth) depth rs v
       → closedAt (w .level .end) (w .run) ≡ chainRun (ruled given sets) (lookupsOf ws) depth rs v .run
   unfolding closedAt closed
-  closed-is depth rs v w e = ap (λ (u : Stage). when (not (isOver (u .run .tally .ending))) (changed (movedTo (u .level .end))) (u .run)) e ∙ sym (ap (λ (u : Stage). u .run) (chain-is depth rs v))
+  closed-is depth rs v w e = ap (λ (u : Stage). when (not (isOver (u .run .tally .ending))) (changed (movedTo (u .level .end))) (u .run)) e
+      ∙ sym (ap (λ (u : Stage). u .run) (chain-is depth rs v))
 
-  pub closed-level : (depth : ℕ) (rs : List Record) (v w : Stage) → w ≡ recordsBy (nestedAt depth) depth rs v → w .level ≡ chainRun (ruled given sets) (lookupsOf ws) depth rs v .level
+  pub closed-level : (depth : ℕ) (rs : List Record) (v w : Stage) → w ≡ recordsBy (nestedAt depth) depth rs v
+      → w .level ≡ chainRun (ruled given sets) (lookupsOf ws) depth rs v .level
   unfolding closed
   closed-level depth rs v w e = ap (λ (u : Stage). u .level) e ∙ sym (ap (λ (u : Stage). u .level) (chain-is depth rs v))
 
 -- a place that isn't at the row's end has a glyph
-pub glyph-there : (done coming : List ℕ) (s : State) → Fits done coming (s .place) → s .place .idx < limit → s .place .d < length (textOf done coming (s .place) .glyphs)
+pub glyph-there : (done coming : List ℕ) (s : State) → Fits done coming (s .place) → s .place .idx < limit
+    → s .place .d < length (textOf done coming (s .place) .glyphs)
 glyph-there done coming s f h = let z = sizes done coming (s .place) f in omega arith
 
 -- a text is never longer than a row

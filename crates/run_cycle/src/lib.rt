@@ -37,7 +37,8 @@ pub fn chain(
 ) -> Closed
     requires { ⌜ Indexed (now book) (now starts) count × Able (now done) (now coming) s m ⌝ }
     ensures { λ r. ⌜ Chained (now (done .exit)) (now (coming .exit)) r
-        (chainRun (ruled given (now (sets .entry))) (lookupsOf (now (book .entry))) depth (recordsOf (now (recs .entry))) (stageOf (now (done .entry)) (now (coming .entry)) s m)) ⌝ }
+        (chainRun (ruled given (now (sets .entry))) (lookupsOf (now (book .entry))) depth (recordsOf (now (recs .entry)))
+        (stageOf (now (done .entry)) (now (coming .entry)) s m)) ⌝ }
 {
     let mut st = s;
     let mut lv = m;
@@ -94,7 +95,8 @@ fn lookup(
     requires { ⌜ Indexed (now book) (now starts) count × EntryInside (length (now book)) e
         × Fits (now done) (now coming) (s .place) × (s .place .idx < limit) × (s .left + s .spent ≤ mostAllowance) ⌝ }
     ensures { λ r. ⌜ Ran (now (done .exit)) (now (coming .exit)) r
-        (doneBy (chainRun (ruled given (now (sets .entry))) (lookupsOf (now (book .entry))) depth) (ruled given (now (sets .entry)) .deed (meant (now (book .entry)) e))
+        (doneBy (chainRun (ruled given (now (sets .entry))) (lookupsOf (now (book .entry))) depth)
+        (ruled given (now (sets .entry)) .deed (meant (now (book .entry)) e))
         (runOf (now (done .entry)) (now (coming .entry)) s)) ⌝ }
 {
     if !book::is_chain(e) {

@@ -5,7 +5,8 @@ use Prim.Native.Nat.{ℕ, zero, suc, _+_, _-_, _≤_, _<_, min}
 use native.Mathlib.Numerals.{add-one}
 use native.Mathlib.Decide.{decLt}
 use native.Mathlib.Omega.{arith}
-use lib.ListN.{length, getD, set, take, drop, replicate, length-append, length-take, length-drop, length-map, length-replicate, length-set, getD-replicate, List·getD-append, List·getD-eq-default}
+use lib.ListN.{length, getD, set, take, drop, replicate, length-append, length-take}
+use lib.ListN.{length-drop, length-map, length-replicate, length-set, getD-replicate, List·getD-append, List·getD-eq-default}
 use lib.Seq.{length-take-le, getD-take, getD-drop, getD-append-add, ext-getD, getD-set-same, getD-set-other, take-append-seam}
 use Rattle.glyph.specs.Glyph.{limit}
 use Rattle.matching.specs.Take.{slots}
@@ -39,7 +40,8 @@ pub filled-more : (out : List ℕ) (j v : ℕ) (L : List ℕ) → j < length out
     → (k : ℕ) → k < j + 1 → getD (set out j v) k 0 ≡ getD L k 0
 filled-more out j v L h f e k l = elim (decLt k j) [
   | yes b ↦ getD-set-other out j k v 0 (λ q. let z : ⊥ = omega arith in absurd z) ∙ f k b
-  | no b ↦ let q : k ≡ j = omega arith in ap (λ (n : ℕ). getD (set out j v) n 0) q ∙ getD-set-same out j v 0 h ∙ e ∙ ap (λ (n : ℕ). getD L n 0) (sym q)
+  | no b ↦ let q : k ≡ j = omega arith in ap (λ (n : ℕ). getD (set out j v) n 0) q ∙ getD-set-same out j v 0 h ∙ e
+      ∙ ap (λ (n : ℕ). getD L n 0) (sym q)
 ]
 
 slotted-at : (L : List ℕ) (k : ℕ) → getD (slotted L) k 0 ≡ getD L k 0
@@ -57,11 +59,17 @@ slotted-at (x ∷ L) k = elim (decLt k (length (x ∷ L))) [
 ]
   where
     zeros-at : (n m : ℕ) → _≡_ {A = ℕ} (getD (replicate n 0) m 0) 0
-    zeros-at n m = elim (decLt m n) [ yes b ↦ getD-replicate n m 0 0 b | no b ↦ List·getD-eq-default (replicate n 0) 0 {n = m} (omega (arith, length-replicate {A = ℕ} n 0)) ]
+    zeros-at n m = elim (decLt m n) [
+      | yes b ↦ getD-replicate n m 0 0 b
+      | no b ↦ List·getD-eq-default (replicate n 0) 0 {n = m}
+          (omega (arith, length-replicate {A = ℕ} n 0))
+    ]
 
-pub filled-all : (out L : List ℕ) (j : ℕ) → length out ≡ slots → slots ≤ j → length L ≤ slots → ((k : ℕ) → k < j → getD out k 0 ≡ getD L k 0) → out ≡ slotted L
+pub filled-all : (out L : List ℕ) (j : ℕ) → length out ≡ slots → slots ≤ j → length L ≤ slots → ((k : ℕ) → k < j → getD out k 0 ≡ getD L k 0)
+    → out ≡ slotted L
 filled-all out L j n h few f =
-    ext-getD 0 out (slotted L) (let e = length-replicate {A = ℕ} (slots - length L) 0 in simp length-append (omega arith)) (λ k l. f k (omega arith) ∙ sym (slotted-at L k))
+    ext-getD 0 out (slotted L) (let e = length-replicate {A = ℕ} (slots - length L) 0 in simp length-append (omega arith))
+    (λ k l. f k (omega arith) ∙ sym (slotted-at L k))
 
 -- those that no turn has come to are 0 still
 pub none-at : (k : ℕ) → getD (slotted []) k 0 ≡ 0
@@ -183,7 +191,8 @@ module _ (at : List ℕ) (count i n : ℕ) (p : Placed at count) (h : i < count)
   gain-new j l m = sym (gained-new ps i n (omega (arith, size-is)) j l m ∙ ap (λ (x : ℕ). x + (j - i)) (at-is i h))
 
   pub gain-later : (j : ℕ) → i + n < j → j < count + n → getD at (j - n) 0 + n ≡ getD (withGain i n (take count at)) j 0
-  gain-later j l m = sym (gained-later ps i n (omega (arith, size-is)) j l (omega (arith, size-is)) ∙ ap (λ (x : ℕ). x + n) (at-is (j - n) (omega arith)))
+  gain-later j l m = sym (gained-later ps i n (omega (arith, size-is)) j l (omega (arith, size-is))
+      ∙ ap (λ (x : ℕ). x + n) (at-is (j - n) (omega arith)))
 
   pub gain-past : (j : ℕ) → count + n ≤ j → 0 ≡ getD (withGain i n (take count at)) j 0
   gain-past j l = sym (gained-past ps i n (omega (arith, size-is)) j (omega (arith, size-is)))
@@ -217,7 +226,8 @@ module _ (idx d : ℕ) (places : List ℕ) (count : ℕ) (all : length places �
   open-at j h = sym (map-at (fromDone idx d) (take count places) j (omega (arith, many)) ∙ ap (fromDone idx d) (getD-take count places j 0 h))
 
   pub open-past : (j : ℕ) → count ≤ j → 0 ≡ getD (map (fromDone idx d) (take count places)) j 0
-  open-past j h = sym (List·getD-eq-default (map (fromDone idx d) (take count places)) 0 {n = j} (omega (arith, length-map (take count places) (fromDone idx d), many)))
+  open-past j h = sym (List·getD-eq-default (map (fromDone idx d) (take count places)) 0 {n = j}
+      (omega (arith, length-map (take count places) (fromDone idx d), many)))
 
   pub open-many : length (map (fromDone idx d) (take count places)) ≡ count
   open-many = length-map (take count places) (fromDone idx d) ∙ many

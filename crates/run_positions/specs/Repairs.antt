@@ -27,10 +27,12 @@ module _ (s : Slots) (i n : ℕ) (p : Placed (s .at) (s .count)) (h : i < s .cou
   sized = size-is (s .at) (s .count) i n p h
 
   pub grown-fits : s .count + n ≤ slots
-      → _≡_ {A = Slots} (record { live = s .live; end = s .end + n; count = s .count + n; at = slotted (withGain i n (take (s .count) (s .at))) }) (shown (grownBy i n (levelOf s)))
+      → _≡_ {A = Slots} (record { live = s .live; end = s .end + n; count = s .count + n; at = slotted (withGain i n (take (s .count) (s .at))) })
+      (shown (grownBy i n (levelOf s)))
   unfolding grownBy
   grown-fits l =
-      let e : s .count + n ≡ length (withGain i n (take (s .count) (s .at))) = omega (arith, sized, length-gained i n (take (s .count) (s .at)) (omega (arith, sized))) in
+      let e : s .count + n ≡ length (withGain i n (take (s .count) (s .at))) =
+      omega (arith, sized, length-gained i n (take (s .count) (s .at)) (omega (arith, sized))) in
       rw (le-leb (length (take (s .count) (s .at)) + n) slots (omega (arith, sized)))
       (λ j. record { live = s .live; end = s .end + n; count = e j; at = slotted (withGain i n (take (s .count) (s .at))) })
 
@@ -49,21 +51,30 @@ module _ (s : Slots) (i n : ℕ) (p : Placed (s .at) (s .count)) (h : i < s .cou
 
   -- `back` and `gone` as the code finds them
   pub shrunk-is : (back gone : ℕ) → back ≡ min n (s .end - getD (s .at) i 0) → gone ≡ min back (s .count - (i + 1))
-      → _≡_ {A = Slots} (record { live = s .live; end = s .end - back; count = s .count - gone; at = slotted (withLoss i gone (take (s .count) (s .at))) }) (shown (shrunkBy i n (levelOf s)))
+      → _≡_ {A = Slots} (record {
+        live = s .live;
+        end = s .end - back;
+        count = s .count - gone;
+        at =
+            slotted (withLoss i gone (take (s .count) (s .at)));
+      }) (shown (shrunkBy i n (levelOf s)))
   unfolding shrunkBy
   shrunk-is back gone b g =
       let o : getD (take (s .count) (s .at)) i 0 ≡ getD (s .at) i 0 = getD-take (s .count) (s .at) i 0 h in
       let b′ : back ≡ raisedTo i n (levelOf s) = b ∙ ap (λ (x : ℕ). min n (s .end - x)) (sym o) in
       let c : s .count - (i + 1) ≡ length (take (s .count) (s .at)) - suc i = after-own in
-      let g′ : gone ≡ heldBack i n (levelOf s) = g ∙ ap (λ (x : ℕ). min x (s .count - (i + 1))) b′ ∙ ap (λ (x : ℕ). min (raisedTo i n (levelOf s)) x) c in
+      let g′ : gone ≡ heldBack i n (levelOf s) = g ∙ ap (λ (x : ℕ). min x (s .count - (i + 1))) b′
+      ∙ ap (λ (x : ℕ). min (raisedTo i n (levelOf s)) x) c in
       let w : gone ≤ length (take (s .count) (s .at)) - suc i = rw c at (at-most back (s .count - (i + 1)) gone g) in
       let k : s .count - gone ≡ length (withLoss i gone (take (s .count) (s .at))) = left-over gone w in
       (λ j. record { live = s .live; end = s .end - b′ j; count = k j; at = slotted (withLoss i gone (take (s .count) (s .at))) })
-      ∙ ap (λ (x : ℕ). shown (record { live = s .live; positions = withLoss i x (take (s .count) (s .at)); end = s .end - raisedTo i n (levelOf s) })) g′
+      ∙ ap (λ (x : ℕ). shown (record { live = s .live; positions = withLoss i x (take (s .count) (s .at)); end = s .end - raisedTo i n (levelOf s) }))
+      g′
 
 -- ---- an opening
 
-pub opened-is : (idx d : ℕ) (places : List ℕ) (count end : ℕ) (out : List ℕ) → length (map (fromDone idx d) (take count places)) ≡ count → out ≡ slotted (map (fromDone idx d) (take count places))
+pub opened-is : (idx d : ℕ) (places : List ℕ) (count end : ℕ) (out : List ℕ) → length (map (fromDone idx d) (take count places)) ≡ count
+    → out ≡ slotted (map (fromDone idx d) (take count places))
     → _≡_ {A = Slots} (record { live = true; end = d + (end - idx); count = count; at = out }) (shown (movedLevel idx d (take count places) end))
 opened-is idx d places count end out m e = λ j. record { live = true; end = d + (end - idx); count = sym m j; at = e j }
 

@@ -1,4 +1,5 @@
--- The code's side: a level in slots. How the code keeps the positions of a level, 64 numbers of which the first `count` are positions and the others 0.
+-- The code's side: a level in slots. How the code keeps the positions of a level, 64 numbers of which the first `count` are positions and the others
+-- 0.
 use mathlib.Core.Path.{_≡_}
 use mathlib.Core.Bool.{true}
 use mathlib.Core.List.{List, map}

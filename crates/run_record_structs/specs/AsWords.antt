@@ -1,4 +1,5 @@
--- The run on structs answers as the run on the same pairs in words: what the two contracts say leaves one answer, and one word for each cell of both rows.
+-- The run on structs answers as the run on the same pairs in words: what the two contracts say leaves one answer, and one word for each cell of both
+-- rows.
 use mathlib.Core.Path.{_≡_, subst}
 use mathlib.Core.List.{List}
 use Prim.Native.Nat.{ℕ}
@@ -20,6 +21,16 @@ module _ (done coming : List ℕ) (place : Place) (sets book : List ℕ) (m : In
       → SaidOf done coming place sets book m given allowance depth done″ coming″ r′ words
       → SameRun done′ coming′ r done″ coming″ r′
   as-the-words rs words e done′ coming′ r done″ coming″ r′ a b a′ b′ structs as-words =
-      let h : Handed = record { done = done; coming = coming; place = place; sets = sets; book = book; records = recordWords rs; match = m; given = given } in
+      let h : Handed = record {
+        done = done;
+        coming = coming;
+        place = place;
+        sets = sets;
+        book = book;
+        records = recordWords rs;
+        match = m;
+        given =
+            given;
+      } in
       run-decided (checkedAll h allowance depth) (runSays h allowance depth) done coming done′ coming′ r done″ coming″ r′ a b a′ b′ structs
       (subst (SaidOf done coming place sets book m given allowance depth done″ coming″ r′) e as-words)

@@ -1,4 +1,5 @@
--- Demands 1 and 3 of the run on structs (01, "When the desk says no", "Nailing an answer down"), in its own terms: of records a list of structs, of which at most 16 are let pass.
+-- Demands 1 and 3 of the run on structs (01, "When the desk says no", "Nailing an answer down"), in its own terms: of records a list of structs, of
+-- which at most 16 are let pass.
 -- Said of any answer and rows that meet the contract of `run_record_structs::run`.
 use mathlib.Core.Path.{_≡_}
 use mathlib.Core.List.{List, [], _∷_}

@@ -71,19 +71,22 @@ module _ (rs : List Record) (i : ℕ) (p : Pairs) (here : i < length rs) (fits :
   abbrev r : Record
   r = getD rs i noRecord
 
-  pairs-on : (w : List ℕ) (n : ℕ) → 2 * n + 1 < length w → take (2 * (n + 1)) (set (set w (2 * n) (r .sequence)) (2 * n + 1) (r .lookup)) ≡ (take (2 * n) w ++ r .sequence ∷ []) ++ r .lookup ∷ []
+  pairs-on : (w : List ℕ) (n : ℕ) → 2 * n + 1 < length w → take (2 * (n + 1)) (set (set w (2 * n) (r .sequence)) (2 * n + 1) (r .lookup))
+      ≡ (take (2 * n) w ++ r .sequence ∷ []) ++ r .lookup ∷ []
   pairs-on w n h =
       let e : 2 * (n + 1) ≡ suc (2 * n + 1) = omega arith in
       let g : 2 * n + 1 < length (set w (2 * n) (r .sequence)) = omega (arith, length-set w (2 * n) (r .sequence)) in
       ap (λ (k : ℕ). take k (set (set w (2 * n) (r .sequence)) (2 * n + 1) (r .lookup))) e
       ∙ take-suc-set (set w (2 * n) (r .sequence)) (2 * n + 1) (r .lookup) g
-      ∙ ap (λ (l : List ℕ). l ++ r .lookup ∷ []) (ap (λ (k : ℕ). take k (set w (2 * n) (r .sequence))) (add-one (2 * n)) ∙ take-suc-set w (2 * n) (r .sequence) (omega arith))
+      ∙ ap (λ (l : List ℕ). l ++ r .lookup ∷ []) (ap (λ (k : ℕ). take k (set w (2 * n) (r .sequence))) (add-one (2 * n))
+      ∙ take-suc-set w (2 * n) (r .sequence) (omega arith))
 
   pub filled-more : Filled (take (i + 1) rs) (withPair p r)
   filled-more =
       record {
         number = omega (arith, at, length-take-le (i + 1) rs (omega arith));
-        room = length-set (set (p .words) (2 * p .n) (r .sequence)) (2 * p .n + 1) (r .lookup) ∙ length-set (p .words) (2 * p .n) (r .sequence) ∙ f .room;
+        room = length-set (set (p .words) (2 * p .n) (r .sequence)) (2 * p .n + 1) (r .lookup) ∙ length-set (p .words) (2 * p .n) (r .sequence)
+            ∙ f .room;
         words = pairs-on (p .words) (p .n) (omega (arith, at, f .room))
             ∙ ap (λ (l : List ℕ). (l ++ r .sequence ∷ []) ++ r .lookup ∷ []) (f .words)
             ∙ sym (words-last (take i rs) r)
@@ -110,10 +113,12 @@ unfolding checkedAll checkedFirst
 many-refused h allowance depth l = rw (lt-ltb (2 * mostRecords) (length (h .records)) l, or-true, or-true, or-true)
 
 -- of the records that are kept no more is asked than an array holds
-pub filled-fits : (rs : List Record) (p : Pairs) → Filled (take (pairsKept (length rs)) rs) p → (p .n ≤ mostPairs) × (length (p .words) ≡ 2 * mostPairs)
+pub filled-fits : (rs : List Record) (p : Pairs) → Filled (take (pairsKept (length rs)) rs) p
+    → (p .n ≤ mostPairs) × (length (p .words) ≡ 2 * mostPairs)
 filled-fits rs p f = let k = kept-few (length rs) in (omega (arith, f .number, length-take-le (pairsKept (length rs)) rs (k .0), k .1), f .room)
 
-module _ (done coming : List ℕ) (place : Place) (sets book : List ℕ) (m : InputMatch) (given : Given) (allowance depth : ℕ) (done′ coming′ : List ℕ) (r : RunAnswer) where
+module _ (done coming : List ℕ) (place : Place) (sets book : List ℕ) (m : InputMatch) (given : Given) (allowance depth : ℕ) (done′ coming′ : List ℕ)
+    (r : RunAnswer) where
   -- what the run on these words says
   abbrev handed : List ℕ → Handed
   handed words =
@@ -123,9 +128,11 @@ module _ (done coming : List ℕ) (place : Place) (sets book : List ℕ) (m : In
   SaidOf words = Said (handed words) allowance depth done′ coming′ r
 
   -- two refusals by 1 say the same, whatever the runs would be
-  refused-same : (v v′ : Stage) (c c′ : Checked) → c ≡ Checked.Refused Shape → c′ ≡ Checked.Refused Shape → SaidBy c v done coming done′ coming′ r → SaidBy c′ v′ done coming done′ coming′ r
+  refused-same : (v v′ : Stage) (c c′ : Checked) → c ≡ Checked.Refused Shape → c′ ≡ Checked.Refused Shape → SaidBy c v done coming done′ coming′ r
+      → SaidBy c′ v′ done coming done′ coming′ r
   refused-same v v′ c c′ e e′ said =
-      subst (λ (k : Checked). SaidBy k v′ done coming done′ coming′ r) (sym e′) (subst (λ (k : Checked). SaidBy k v done coming done′ coming′ r) e said)
+      subst (λ (k : Checked). SaidBy k v′ done coming done′ coming′ r) (sym e′)
+      (subst (λ (k : Checked). SaidBy k v done coming done′ coming′ r) e said)
 
   -- the records that are kept are refused by 1, or run, as the whole list
   pub said-kept : (rs : List Record) → SaidOf (recordWords (take (pairsKept (length rs)) rs)) → SaidOf (recordWords rs)
@@ -136,11 +143,13 @@ module _ (done coming : List ℕ) (place : Place) (sets book : List ℕ) (m : In
       by-test true e said =
           let h : mostPairs ≤ length rs = leb-true mostPairs (length rs) e in
           refused-same _ _ _ _
-          (many-refused (handed (recordWords (take mostPairs rs))) allowance depth (omega (arith, words-length (take mostPairs rs), length-take-le mostPairs rs h)))
+          (many-refused (handed (recordWords (take mostPairs rs))) allowance depth
+          (omega (arith, words-length (take mostPairs rs), length-take-le mostPairs rs h)))
           (many-refused (handed (recordWords rs)) allowance depth (omega (arith, words-length rs)))
           said
       by-test false e said = subst (λ (l : List Record). SaidOf (recordWords l)) (take-length rs) said
 
   -- the run on the array's words is the run on the records
-  pub said-filled : (rs : List Record) (p : Pairs) → Filled (take (pairsKept (length rs)) rs) p → SaidOf (take (2 * p .n) (p .words)) → SaidOf (recordWords rs)
+  pub said-filled : (rs : List Record) (p : Pairs) → Filled (take (pairsKept (length rs)) rs) p → SaidOf (take (2 * p .n) (p .words))
+      → SaidOf (recordWords rs)
   said-filled rs p f said = said-kept rs (subst SaidOf (f .words) said)

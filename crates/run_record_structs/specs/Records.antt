@@ -1,4 +1,5 @@
--- A list of records as structs, and the same list as 16-bit words: of each record its sequence index and then its lookup index (01, "Records over a text": records are a list of pairs, first as 16-bit words and then as structs).
+-- A list of records as structs, and the same list as 16-bit words: of each record its sequence index and then its lookup index (01, "Records over a
+-- text": records are a list of pairs, first as 16-bit words and then as structs).
 use mathlib.Core.List.{List, [], _∷_}
 use Prim.Native.Nat.{ℕ}
 use Rattle.book.specs.Book as book

@@ -1,4 +1,5 @@
--- The code's side: a run as the code keeps it: two rows, a state and a level in slots. What each step of the code makes of them, as a run over a text.
+-- The code's side: a run as the code keeps it: two rows, a state and a level in slots. What each step of the code makes of them, as a run over a
+-- text.
 use mathlib.Core.Path.{_≡_}
 use mathlib.Core.Bool.{Bool, true, false, cond, not, _&&_}
 use mathlib.Core.List.{List}

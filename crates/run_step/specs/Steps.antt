@@ -25,7 +25,8 @@ use Rattle.run_positions.specs.Slots.{levelOf, Neat}
 use Rattle.run_positions.specs.Laws.{count-is}
 use Rattle.run_step.specs.declared.State.{State}
 use Rattle.run_step.specs.declared.Ready.{Ready}
-use Rattle.run_step.specs.State.{runOf, stageOf, Ran, Able, at, isDueAt, partedAt, endedAs, spentAs, stoppedSlots, judgedAt, judged, readied, Prepared, closedAt, oneOn, manyOn}
+use Rattle.run_step.specs.State.{runOf, stageOf, Ran, Able, at, isDueAt, partedAt, endedAs, spentAs}
+use Rattle.run_step.specs.State.{stoppedSlots, judgedAt, judged, readied, Prepared, closedAt, oneOn, manyOn}
 
 -- ids of a lookup, and slots, are fewer than a row's glyphs
 pub limit-most : 64 ≤ limit
@@ -61,15 +62,18 @@ module _ (depth : ℕ) (s : State) (lv : Slots) where
   unfolding judgedAt
   judge-zero l e = rw e
 
-  pub judge-short : s .left ≡ 0 → _≡_ {A = Ready} (record { go = false; state = endedAs Short s; level = stoppedSlots lv }) (judgedAt depth (s .left) s lv)
+  pub judge-short : s .left ≡ 0 → _≡_ {A = Ready} (record { go = false; state = endedAs Short s; level = stoppedSlots lv })
+      (judgedAt depth (s .left) s lv)
   judge-short e = judge-zero (s .left) e
 
-  judge-none : (l d : ℕ) → (l ≡ 0 → ⊥) → d ≡ 0 → _≡_ {A = Ready} (record { go = false; state = endedAs Deep s; level = stoppedSlots lv }) (judgedAt d l s lv)
+  judge-none : (l d : ℕ) → (l ≡ 0 → ⊥) → d ≡ 0 → _≡_ {A = Ready} (record { go = false; state = endedAs Deep s; level = stoppedSlots lv })
+      (judgedAt d l s lv)
   unfolding judgedAt
   judge-none zero d n e = absurd (n refl)
   judge-none (suc l) d n e = rw e
 
-  pub judge-deep : (s .left ≡ 0 → ⊥) → depth ≡ 0 → _≡_ {A = Ready} (record { go = false; state = endedAs Deep s; level = stoppedSlots lv }) (judgedAt depth (s .left) s lv)
+  pub judge-deep : (s .left ≡ 0 → ⊥) → depth ≡ 0 → _≡_ {A = Ready} (record { go = false; state = endedAs Deep s; level = stoppedSlots lv })
+      (judgedAt depth (s .left) s lv)
   judge-deep n e = judge-none (s .left) depth n e
 
   judge-some : (l d : ℕ) → (l ≡ 0 → ⊥) → (d ≡ 0 → ⊥)
@@ -94,7 +98,8 @@ module _ (done coming : List ℕ) (s : State) (lv : Slots) (seq : ℕ) where
 
   -- what the code counts on where a record is due
   pub due-shown : Able done coming s lv → isDueAt (levelOf lv) (s .ending) (sizeOf (s .place)) seq ≡ true
-      → (seq < lv .count) × (getD (lv .at) seq 0 < length (textOf done coming (s .place) .glyphs)) × (getD (lv .at) seq 0 ≡ getD (take (lv .count) (lv .at)) seq 0)
+      → (seq < lv .count) × (getD (lv .at) seq 0 < length (textOf done coming (s .place) .glyphs))
+      × (getD (lv .at) seq 0 ≡ getD (take (lv .count) (lv .at)) seq 0)
   due-shown a e =
       let u = due-shows (at seq) (stageOf done coming s lv) (due-is (a .fits) ∙ e) in
       let c = count-is lv (a .neat) in
@@ -133,7 +138,8 @@ module _ (done coming : List ℕ) (s : State) (lv : Slots) (seq : ℕ) where
     }
 
     pub prepared-due : (depth p : ℕ) (r : Ready) → Able done coming s lv → isDueAt (levelOf lv) (s .ending) (sizeOf (s .place)) seq ≡ true
-        → p ≡ getD (take (lv .count) (lv .at)) seq 0 → Holds done′ coming′ place (movedTo p (textOf done coming (s .place))) → r ≡ judgedAt depth (s .left) moved lv
+        → p ≡ getD (take (lv .count) (lv .at)) seq 0 → Holds done′ coming′ place (movedTo p (textOf done coming (s .place)))
+        → r ≡ judgedAt depth (s .left) moved lv
         → Prepared (readied depth (at seq) (stageOf done coming s lv)) done′ coming′ r
     prepared-due depth p r a e q h j =
         let d : isDue (at seq) (stageOf done coming s lv) ≡ true = due-is (a .fits) ∙ e in
@@ -146,7 +152,8 @@ module _ (done coming : List ℕ) (s : State) (f : Fits done coming (s .place)) 
   unfolding closedAt
   closed-over o = rw o (record { fits = f; is = refl })
 
-  pub closed-moves : (done′ coming′ : List ℕ) (place : Place) → isOver (s .ending) ≡ false → Holds done′ coming′ place (movedTo end (textOf done coming (s .place)))
+  pub closed-moves : (done′ coming′ : List ℕ) (place : Place) → isOver (s .ending) ≡ false
+      → Holds done′ coming′ place (movedTo end (textOf done coming (s .place)))
       → Ran done′ coming′ (partedAt place s) (closedAt end (runOf done coming s))
   unfolding closedAt
   closed-moves done′ coming′ place o h =
@@ -154,7 +161,8 @@ module _ (done coming : List ℕ) (s : State) (f : Fits done coming (s .place)) 
 
 -- ---- kinds 1 and 2
 
-module _ (done coming : List ℕ) (s : State) (f : Fits done coming (s .place)) (g : Glyph) (is : g ≡ getD (glyphsOf coming) (s .place .idx) blank) (from : ℕ) where
+module _ (done coming : List ℕ) (s : State) (f : Fits done coming (s .place)) (g : Glyph) (is : g ≡ getD (glyphsOf coming) (s .place .idx) blank)
+    (from : ℕ) where
   -- the glyph that was read is the cursor's
   cursor-is : isAt from (textOf done coming (s .place)) ≡ eqb (g .id) from
   cursor-is = ap (λ (x : Glyph). eqb (x .id) from) (at-cursor f ∙ sym is)
@@ -168,7 +176,8 @@ module _ (done coming : List ℕ) (s : State) (f : Fits done coming (s .place)) 
   pub one-off : (to : ℕ) → (g .id ≡ from → ⊥) → Ran done coming s (oneOn from to (runOf done coming s))
   one-off to n = rw (cursor-is, ne-eqb (g .id) from n) same
 
-  pub one-on : (to : ℕ) (done′ : List ℕ) (place : Place) → g .id ≡ from → Holds done′ coming place (replaced (to ∷ []) (textOf done coming (s .place)))
+  pub one-on : (to : ℕ) (done′ : List ℕ) (place : Place) → g .id ≡ from → Holds done′ coming place
+      (replaced (to ∷ []) (textOf done coming (s .place)))
       → Ran done′ coming (partedAt place s) (oneOn from to (runOf done coming s))
   one-on to done′ place e h =
       rw (cursor-is, eq-eqb (g .id) from e) (record { fits = h .fits; is = λ j. changed (λ t. h .text j) (runOf done coming s) })
@@ -180,7 +189,8 @@ module _ (done coming : List ℕ) (s : State) (f : Fits done coming (s .place)) 
     full-is : isFull (size (runOf done coming s)) (length ids) ≡ isFull (sizeOf (s .place)) (length ids)
     full-is = ap (λ (n : ℕ). isFull n (length ids)) (size-is f)
 
-    pub many-full : g .id ≡ from → isFull (sizeOf (s .place)) (length ids) ≡ true → Ran done coming (endedAs Full s) (manyOn from ids (runOf done coming s))
+    pub many-full : g .id ≡ from → isFull (sizeOf (s .place)) (length ids) ≡ true
+        → Ran done coming (endedAs Full s) (manyOn from ids (runOf done coming s))
     many-full e o = rw (cursor-is, eq-eqb (g .id) from e, full-is, o) (record { fits = f; is = refl })
 
     pub many-on : (done′ : List ℕ) (place : Place) → g .id ≡ from → isFull (sizeOf (s .place)) (length ids) ≡ false

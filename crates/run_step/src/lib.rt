@@ -10,11 +10,13 @@ ghost use Rattle.glyph.specs.Glyph.{limit};
 ghost use Rattle.text.specs.Text.{textOf, sizeOf, Fits};
 ghost use Rattle.book.specs.Inside.{EntryInside};
 ghost use Rattle.run_positions.specs.Slots.{levelOf, Neat};
-ghost use Rattle.run_step.specs.State.{runOf, stageOf, Ran, Able, at, isDueAt, begunAt, partedAt, endedAs, spentAs, stoppedAs, judgedAt, readied, Prepared, closedAt, oneOn, manyOn, actedBy};
+ghost use Rattle.run_step.specs.State.{runOf, stageOf, Ran, Able, at, isDueAt, begunAt, partedAt, endedAs};
+ghost use Rattle.run_step.specs.State.{spentAs, stoppedAs, judgedAt, readied, Prepared, closedAt, oneOn, manyOn, actedBy};
 ghost use Rattle.run.specs.Run.{mostAllowance};
 
-// A run under way: where the text is parted, and its tally: the allowance that is left, the lookups tried so far, and how it would end now. States are
-// made by `begin`, `parted`, `ended` and `spend`. The tally's fields stand in it, and not in a struct of their own, which would be copied with its padding.
+// A run under way: where the text is parted, and its tally: the allowance that is left, the lookups tried so far, and how it would end now. States
+// are made by `begin`, `parted`, `ended` and `spend`. The tally's fields stand in it, and not in a struct of their own, which would be copied with
+// its padding.
 pub struct State {
     pub place: Place,
     pub left: u32,
@@ -151,7 +153,8 @@ pub fn prepare(
     depth: usize,
 ) -> Ready
     requires { ⌜ Able (now done) (now coming) s lv ⌝ }
-    ensures { λ r. ⌜ Prepared (readied depth (at seq) (stageOf (now (done .entry)) (now (coming .entry)) s lv)) (now (done .exit)) (now (coming .exit)) r ⌝ }
+    ensures { λ r. ⌜ Prepared (readied depth (at seq) (stageOf (now (done .entry)) (now (coming .entry)) s lv)) (now (done .exit))
+        (now (coming .exit)) r ⌝ }
 {
     if !is_due(s, lv, seq) {
         return Ready {
@@ -198,7 +201,8 @@ fn act_one(done: &mut [u32], coming: &[u32], s: State, from: u32, to: u32) -> St
 // Kind 2 at the cursor. A result that would pass the limit writes nothing, and the run is Full.
 fn act_many(done: &mut [u32], coming: &[u32], s: State, from: u32, ids: &[u16]) -> State
     requires { ⌜ Fits (now done) (now coming) (s .place) × (s .place .idx < limit) × (length (now ids) ≤ limit) ⌝ }
-    ensures { λ r. ⌜ Ran (now (done .exit)) (now (coming .entry)) r (manyOn from (now (ids .entry)) (runOf (now (done .entry)) (now (coming .entry)) s)) ⌝ }
+    ensures { λ r. ⌜ Ran (now (done .exit)) (now (coming .entry)) r
+        (manyOn from (now (ids .entry)) (runOf (now (done .entry)) (now (coming .entry)) s)) ⌝ }
 {
     let here = s.place;
     let g = glyph::read(coming, here.idx);
@@ -215,7 +219,8 @@ fn act_many(done: &mut [u32], coming: &[u32], s: State, from: u32, ids: &[u16]) 
 // Kinds 1 and 2; any other entry does nothing here. `coming` is lent as the cycle has it, to write to; these two only read it.
 pub fn act(done: &mut [u32], coming: &mut [u32], book: &[u16], e: Entry, s: State) -> State
     requires { ⌜ Fits (now done) (now coming) (s .place) × (s .place .idx < limit) × EntryInside (length (now book)) e ⌝ }
-    ensures { λ r. ⌜ Ran (now (done .exit)) (now (coming .exit)) r (actedBy (now (book .entry)) e (runOf (now (done .entry)) (now (coming .entry)) s)) ⌝ }
+    ensures { λ r. ⌜ Ran (now (done .exit)) (now (coming .exit)) r
+        (actedBy (now (book .entry)) e (runOf (now (done .entry)) (now (coming .entry)) s)) ⌝ }
 {
     match e {
         Entry::One { props: _, from, to } => act_one(done, coming, s, from, to),

@@ -13,7 +13,8 @@ use Rattle.bits.specs.Laws.{ltb-same}
 pub filled-none : (xs : List ℕ) (f : ℕ → ℕ) (j : ℕ) → getD xs j 0 ≡ cond (ltb j 0) (f j) (getD xs j 0)
 filled-none xs f j = rw (le-ltb j 0 (omega arith))
 
-module _ (xs ys : List ℕ) (f : ℕ → ℕ) (k v : ℕ) (h : k < length xs) (e : (j : ℕ) → getD xs j 0 ≡ cond (ltb j k) (f j) (getD ys j 0)) (g : v ≡ f k) where
+module _ (xs ys : List ℕ) (f : ℕ → ℕ) (k v : ℕ) (h : k < length xs) (e : (j : ℕ) → getD xs j 0 ≡ cond (ltb j k) (f j) (getD ys j 0))
+    (g : v ≡ f k) where
   filled-by : (j : ℕ) (t : Bool) → eqb j k ≡ t → getD (set xs k v) j 0 ≡ cond (ltb j (k + 1)) (f j) (getD ys j 0)
   filled-by j true s =
       let same : j ≡ k = eqb-true j k s in

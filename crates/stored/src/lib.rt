@@ -1,4 +1,5 @@
-// Reads a stored list of questions and answers: words of eight hexadecimal digits, each with one byte after it; and what the programs that replay a list share.
+// Reads a stored list of questions and answers: words of eight hexadecimal digits, each with one byte after it; and what the programs that replay a
+// list share.
 use verdict::Settings;
 ghost use mathlib.Core.Bool.{Bool, cond};
 ghost use mathlib.Core.Path.{_≡_};
@@ -51,7 +52,8 @@ pub fn say(words: &[u8], n: u64) {
 
 // The words of a text, as far as they fit, and how many there are. What stands past them stays.
 pub fn decode(text: &[u8], words: &mut [u32]) -> usize
-    ensures { λ r. ⌜ (r ≡ min (length (now (text .entry)) / 9) (length (now (words .entry)))) × ((k : ℕ) → getD (now (words .exit)) k 0 ≡ cond (ltb k r) (storedWord (now (text .entry)) k) (getD (now (words .entry)) k 0)) ⌝ }
+    ensures { λ r. ⌜ (r ≡ min (length (now (text .entry)) / 9) (length (now (words .entry))))
+        × ((k : ℕ) → getD (now (words .exit)) k 0 ≡ cond (ltb k r) (storedWord (now (text .entry)) k) (getD (now (words .entry)) k 0)) ⌝ }
 {
     let n = least(text.len() / 9, words.len());
     let mut k = 0;

@@ -18,7 +18,8 @@ frameTerms f = record { settings = f .settings; mask = f .mask; props = f .props
 -- every record of both rows counts, and a value matches an equal id
 unfoldable pub frameMatch : Frame → InputMatch
 frameMatch f =
-    inputOf (f .done) (length (glyphsOf (f .done))) (f .coming) (length (glyphsOf (f .coming))) (f .cursor) (frameTerms f) [] (valueBy Test.Equal []) (f .values)
+    inputOf (f .done) (length (glyphsOf (f .done))) (f .coming) (length (glyphsOf (f .coming))) (f .cursor) (frameTerms f) [] (valueBy Test.Equal [])
+    (f .values)
 
 abbrev pub answerTo : LineRead → List ℕ
 answerTo (aFrame f) = answerBytes (inputReply (frameMatch f))

@@ -73,7 +73,8 @@ module _ (l : List ℕ) (h : Head) (t : FrameTold (frameOf l) h) where
   -- asking with what was stored is asking what the frame asks
   pub told-answer : (a : Decoded) (v v′ d d′ c c′ : List ℕ) → Decodes (frameOf l) a v v′ d d′ c c′
       → length v ≡ mostValues → length d ≡ words * mostGlyphs → length c ≡ words * mostGlyphs
-      → withNewline (answerBytes (inputReply (asked h (take (h .values) v′) (take (words * h .done) d′) (take (words * h .coming) c′)))) ≡ answerLine l
+      → withNewline (answerBytes (inputReply (asked h (take (h .values) v′) (take (words * h .done) d′) (take (words * h .coming) c′))))
+      ≡ answerLine l
   unfolding answerLine asked frameMatch
   told-answer a v v′ d d′ c c′ s lv ld lc =
       let f = t .frame in

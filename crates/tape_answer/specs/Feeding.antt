@@ -1,5 +1,5 @@
--- The code's side: the tape a byte at a time with only the first bytes of a line kept, as it is read in pieces. Pieces.antt shows that it is answered as
--- the whole tape is.
+-- The code's side: the tape a byte at a time with only the first bytes of a line kept, as it is read in pieces. Pieces.antt shows that it is answered
+-- as the whole tape is.
 use Prim.Native.Nat.{ℕ, _+_, _-_}
 use mathlib.Core.Path.{_≡_}
 use mathlib.Core.List.{List, [], _∷_, _++_}

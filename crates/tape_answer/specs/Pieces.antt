@@ -44,7 +44,8 @@ taken-part : (room : ℕ) (l p : List ℕ) → bytesTaken room l p ++ drop (leng
 unfolding bytesTaken
 taken-part room l [] = refl
 taken-part room l (b ∷ p) =
-    taken-by b p (bytesTaken (room - length (answerAt l b)) (lineAfter l b) p) (taken-part (room - length (answerAt l b)) (lineAfter l b) p) (leb mostAnswer room)
+    taken-by b p (bytesTaken (room - length (answerAt l b)) (lineAfter l b) p) (taken-part (room - length (answerAt l b)) (lineAfter l b) p)
+    (leb mostAnswer room)
 
 module _ (piece : List ℕ) (at : ℕ) (kept out : List ℕ) (m room at′ : ℕ) (kept′ out′ : List ℕ) (m′ : ℕ)
     (f : Feeds (bytesTaken room kept (drop at piece)) at kept out m at′ kept′ out′ m′) where
@@ -107,7 +108,8 @@ longer-kept u b = ⊎-elim (λ h. longer-full u b h) (λ h. longer-room u b h) (
 
 module _ (u : List ℕ) (b : ℕ) (p : List ℕ)
     (closed : answersIn [] p ++ lastAnswer (lineLeft [] p) ≡ answersFrom [] p)
-    (on : answersIn (take mostKept (u ++ (b ∷ []))) p ++ lastAnswer (lineLeft (take mostKept (u ++ (b ∷ []))) p) ≡ answersFrom (u ++ (b ∷ [])) p) where
+    (on : answersIn (take mostKept (u ++ (b ∷ []))) p ++ lastAnswer (lineLeft (take mostKept (u ++ (b ∷ []))) p)
+    ≡ answersFrom (u ++ (b ∷ [])) p) where
   byte-whole : (t : Bool)
       → (cond t (answerLine (take mostKept u)) [] ++ answersIn (cond t [] (longer (take mostKept u) b)) p)
       ++ lastAnswer (lineLeft (cond t [] (longer (take mostKept u) b)) p)

@@ -114,7 +114,8 @@ fn put_matched(
     positions: &[u16; SLOTS],
 ) -> usize
     requires { ⌜ (n ≤ mostGlyphs) × (at + mostAnswer ≤ length (now out)) ⌝ }
-    ensures { λ r. ⌜ Puts (now (out .entry)) at (withNewline (0 ∷ matchedBytes (end ∷ total ∷ n ∷ take n (now (positions .entry))))) (now (out .exit)) r ⌝ }
+    ensures { λ r. ⌜ Puts (now (out .entry)) at (withNewline (0 ∷ matchedBytes (end ∷ total ∷ n ∷ take n (now (positions .entry)))))
+        (now (out .exit)) r ⌝ }
     ensures { λ _. ⌜ length (now (positions .entry)) ≡ slots ⌝ }
     ensures { λ r. ⌜ r ≤ at + mostAnswer ⌝ }
 {

@@ -77,7 +77,8 @@ fn read_whole(
     done: &mut [u32; ROW],
     coming: &mut [u32; ROW],
 ) -> Decoded
-    ensures { λ r. ⌜ Decodes (wholeFrame table (now (b .entry))) r (now (values .entry)) (now (values .exit)) (now (done .entry)) (now (done .exit)) (now (coming .entry)) (now (coming .exit)) ⌝ }
+    ensures { λ r. ⌜ Decodes (wholeFrame table (now (b .entry))) r (now (values .entry)) (now (values .exit)) (now (done .entry)) (now (done .exit))
+        (now (coming .entry)) (now (coming .exit)) ⌝ }
 {
     if !tape_frame::is_whole(b) {
         return Decoded::NoFrame;
@@ -98,7 +99,8 @@ fn read_bytes(
     done: &mut [u32; ROW],
     coming: &mut [u32; ROW],
 ) -> Decoded
-    ensures { λ r. ⌜ Decodes (readBytes (now (b .entry))) r (now (values .entry)) (now (values .exit)) (now (done .entry)) (now (done .exit)) (now (coming .entry)) (now (coming .exit)) ⌝ }
+    ensures { λ r. ⌜ Decodes (readBytes (now (b .entry))) r (now (values .entry)) (now (values .exit)) (now (done .entry)) (now (done .exit))
+        (now (coming .entry)) (now (coming .exit)) ⌝ }
 {
     match tape_frame::kind_of(b) {
         Kind::Gsub => read_whole(Table::Gsub, b, values, done, coming),
@@ -115,7 +117,8 @@ pub fn decode(
     done: &mut [u32; ROW],
     coming: &mut [u32; ROW],
 ) -> Decoded
-    ensures { λ r. ⌜ Decodes (frameOf (now (line .entry))) r (now (values .entry)) (now (values .exit)) (now (done .entry)) (now (done .exit)) (now (coming .entry)) (now (coming .exit)) ⌝ }
+    ensures { λ r. ⌜ Decodes (frameOf (now (line .entry))) r (now (values .entry)) (now (values .exit)) (now (done .entry)) (now (done .exit))
+        (now (coming .entry)) (now (coming .exit)) ⌝ }
 {
     if MOST_DIGITS < line.len() {
         return Decoded::NoFrame;

@@ -31,7 +31,8 @@ fn ask(
     coming: &[u32; tape_frame::ROW],
 ) -> InputMatch
     requires { ⌜ Bounded h ⌝ }
-    ensures { λ r. ⌜ r ≡ asked h (take (h .values) (now (values .entry))) (take (words * h .done) (now (done .entry))) (take (words * h .coming) (now (coming .entry))) ⌝ }
+    ensures { λ r. ⌜ r ≡ asked h (take (h .values) (now (values .entry))) (take (words * h .done) (now (done .entry)))
+        (take (words * h .coming) (now (coming .entry))) ⌝ }
 {
     let n = h.values;
     let d = h.done;
@@ -107,7 +108,8 @@ fn take_byte(kept: &mut [u8], n: usize, out: &mut [u8], m: usize, b: u8) -> Take
 // A piece of the tape from a place on, until it ends or `out` has no room for one more answer.
 pub fn feed(piece: &[u8], from: usize, kept: &mut [u8], n: usize, out: &mut [u8], m: usize) -> Fed
     requires { ⌜ (from < length (now piece)) × (n ≤ mostKept) × (length (now kept) ≡ mostKept) × (m + mostAnswer ≤ length (now out)) ⌝ }
-    ensures { λ r. ⌜ Feeds (bytesTaken (length (now (out .entry)) - m) (take n (now (kept .entry))) (drop from (now (piece .entry)))) from (take n (now (kept .entry))) (now (out .entry)) m (r .at) (take (r .kept) (now (kept .exit))) (now (out .exit)) (r .written) ⌝ }
+    ensures { λ r. ⌜ Feeds (bytesTaken (length (now (out .entry)) - m) (take n (now (kept .entry))) (drop from (now (piece .entry)))) from
+        (take n (now (kept .entry))) (now (out .entry)) m (r .at) (take (r .kept) (now (kept .exit))) (now (out .exit)) (r .written) ⌝ }
     ensures { λ r. ⌜ (from < r .at) × (r .at ≤ length (now (piece .entry))) × (r .kept ≤ mostKept) × (r .written ≤ length (now (out .entry))) ⌝ }
     ensures { λ r. ⌜ (r .at < length (now (piece .entry)) → length (now (out .entry)) < r .written + mostAnswer) ⌝ }
 {

@@ -9,10 +9,12 @@ use lib.Seq.{drop-at, drop-drop}
 use Rattle.glyph.specs.Glyph.{words, Row, glyphsOf}
 use Rattle.glyph.specs.Laws.{length-row}
 use Rattle.verdict.specs.declared.Table.{Table}
-use Rattle.tape_frame.specs.Frame.{Frame, mostValues, mostGlyphs, aFrame, halfAt, wordAt, wordsAt, tableKind, settingsOf, valueCount, doneCount, comingCount, doneAt, comingAt, frameEnd, isWhole, frameIn, readBytes, frameOf}
+use Rattle.tape_frame.specs.Frame.{Frame, mostValues, mostGlyphs, aFrame, halfAt, wordAt, wordsAt, tableKind, settingsOf, valueCount}
+use Rattle.tape_frame.specs.Frame.{doneCount, comingCount, doneAt, comingAt, frameEnd, isWhole, frameIn, readBytes, frameOf}
 use Rattle.tape_frame.specs.FrameLaws.{keeps-whole, kindFor}
 use Rattle.tape_frame.specs.Line.{half, wordBytes, tagOf, settingsByte, openingBytes, frameBytes, lineOf}
-use Rattle.tape_frame.specs.Bytes.{Below, nothing, more, below-append, digits-spell, digits-back, below-half, below-word, below-words, length-wordBytes, half-back, word-back, half-on, words-on, words-back}
+use Rattle.tape_frame.specs.Bytes.{Below, nothing, more, below-append, digits-spell, digits-back, below-half, below-word}
+use Rattle.tape_frame.specs.Bytes.{below-words, length-wordBytes, half-back, word-back, half-on, words-on, words-back}
 
 -- ---- the frame
 

@@ -12,7 +12,8 @@ use Rattle.verdict.specs.declared.Table.{Table}
 use Rattle.tape_frame.specs.declared.Head.{Head}
 use Rattle.tape_frame.specs.declared.Decoded.{Decoded}
 use Rattle.tape_frame.specs.Digits.{bytesOf}
-use Rattle.tape_frame.specs.Frame.{Frame, LineRead, aFrame, notFrame, wordsAt, valuesAt, valueCount, doneCount, comingCount, doneAt, comingAt, isWhole, frameIn, frameOf}
+use Rattle.tape_frame.specs.Frame.{Frame, LineRead, aFrame, notFrame, wordsAt, valuesAt, valueCount}
+use Rattle.tape_frame.specs.Frame.{doneCount, comingCount, doneAt, comingAt, isWhole, frameIn, frameOf}
 use Rattle.tape_frame.specs.FrameLaws.{length-words, whole-keeps, frame-has}
 use Rattle.tape_frame.specs.Decoding.{headOf, decoded, Decodes, Bounded}
 use Rattle.tape_frame.specs.Put.{put-none}
@@ -44,7 +45,8 @@ module _ (table : Table) (b : List ℕ) (h : Head) (e : h ≡ headOf (frameIn ta
 
   count-coming : h .coming ≡ comingCount b
   unfolding frameIn
-  count-coming = ap (λ (x : Head). x .coming) e ∙ length-row (comingCount b) (frameIn table b .coming) (length-words (words * comingCount b) (comingAt b) b)
+  count-coming = ap (λ (x : Head). x .coming) e ∙ length-row (comingCount b) (frameIn table b .coming)
+      (length-words (words * comingCount b) (comingAt b) b)
 
   pub rows-values : wordsAt (h .values) valuesAt b ≡ frameIn table b .values
   unfolding frameIn
@@ -67,7 +69,8 @@ whole-row n at b =
     let e = length-words (words * n) at b in
     e ∙ ap (λ (k : ℕ). words * k) (sym (length-row n (wordsAt (words * n) at b) e))
 
-pub frame-rows : (l : List ℕ) (f : Frame) → frameOf l ≡ aFrame f → Row (length (glyphsOf (f .done))) (f .done) × Row (length (glyphsOf (f .coming))) (f .coming)
+pub frame-rows : (l : List ℕ) (f : Frame) → frameOf l ≡ aFrame f → Row (length (glyphsOf (f .done))) (f .done)
+    × Row (length (glyphsOf (f .coming))) (f .coming)
 unfolding frameIn
 frame-rows l f h =
     let p = frame-has l f h in

@@ -16,7 +16,8 @@ use Rattle.glyph.specs.Laws.{length-row}
 use Rattle.verdict.specs.declared.Table.{Table}
 use Rattle.tape_frame.specs.declared.Kind.{Kind}
 use Rattle.tape_frame.specs.Digits.{noDigit, digit, isDigit, spells, bytesOf}
-use Rattle.tape_frame.specs.Frame.{Frame, aFrame, halfAt, wordAt, wordsAt, opens, gsub, gpos, tableKind, settingsOf, valueCount, doneCount, comingCount, countsAt, doneAt, comingAt, frameEnd, frameIn, frameOf}
+use Rattle.tape_frame.specs.Frame.{Frame, aFrame, halfAt, wordAt, wordsAt, opens, gsub, gpos, tableKind, settingsOf}
+use Rattle.tape_frame.specs.Frame.{valueCount, doneCount, comingCount, countsAt, doneAt, comingAt, frameEnd, frameIn, frameOf}
 use Rattle.tape_frame.specs.FrameLaws.{FrameLimits, whole-keeps, length-words, kindFor, frame-has}
 use Rattle.tape_frame.specs.Line.{capital, digitsOf, half, word, wordBytes, tagOf, settingsByte, openingBytes, frameBytes, lineOf}
 use Rattle.tape_frame.specs.Bytes.{Below, nothing, more}
@@ -128,9 +129,12 @@ module _ (b : List ℕ) (s : Below 256 b) where
       let e₂ : suc (at + 1) ≡ at + 2 = omega arith in
       let e₃ : suc (at + 2) ≡ at + 2 + 1 = omega arith in
       let e₄ : suc (at + 2 + 1) ≡ at + 4 = omega arith in
-      let d₁ : drop (at + 1) b ≡ getD b (at + 1) 0 ∷ drop (at + 2) b = drop-cons b (at + 1) 0 (omega arith) ∙ ap (λ (n : ℕ). getD b (at + 1) 0 ∷ drop n b) e₂ in
-      let d₂ : drop (at + 2) b ≡ getD b (at + 2) 0 ∷ drop (at + 2 + 1) b = drop-cons b (at + 2) 0 (omega arith) ∙ ap (λ (n : ℕ). getD b (at + 2) 0 ∷ drop n b) e₃ in
-      let d₃ : drop (at + 2 + 1) b ≡ getD b (at + 2 + 1) 0 ∷ drop (at + 4) b = drop-cons b (at + 2 + 1) 0 (omega arith) ∙ ap (λ (n : ℕ). getD b (at + 2 + 1) 0 ∷ drop n b) e₄ in
+      let d₁ : drop (at + 1) b ≡ getD b (at + 1) 0 ∷ drop (at + 2) b = drop-cons b (at + 1) 0 (omega arith)
+      ∙ ap (λ (n : ℕ). getD b (at + 1) 0 ∷ drop n b) e₂ in
+      let d₂ : drop (at + 2) b ≡ getD b (at + 2) 0 ∷ drop (at + 2 + 1) b = drop-cons b (at + 2) 0 (omega arith)
+      ∙ ap (λ (n : ℕ). getD b (at + 2) 0 ∷ drop n b) e₃ in
+      let d₃ : drop (at + 2 + 1) b ≡ getD b (at + 2 + 1) 0 ∷ drop (at + 4) b = drop-cons b (at + 2 + 1) 0 (omega arith)
+      ∙ ap (λ (n : ℕ). getD b (at + 2 + 1) 0 ∷ drop n b) e₄ in
       drop-cons b at 0 (omega arith)
       ∙ ap (λ (n : ℕ). getD b at 0 ∷ drop n b) e₁
       ∙ ap (λ (r : List ℕ). getD b at 0 ∷ r)
@@ -240,8 +244,10 @@ module _ (t : Table) (b : List ℕ) (s : Below 256 b) (k : FrameLimits b) where
   frame-forth : tableKind b ≡ kindFor t → frameBytes (frameIn t b) ≡ b
   unfolding frameBytes frameIn
   frame-forth tag =
-      let d : length (glyphsOf (frameIn t b .done)) ≡ doneCount b = length-row (doneCount b) (frameIn t b .done) (length-words (words * doneCount b) (doneAt b) b) in
-      let c : length (glyphsOf (frameIn t b .coming)) ≡ comingCount b = length-row (comingCount b) (frameIn t b .coming) (length-words (words * comingCount b) (comingAt b) b) in
+      let d : length (glyphsOf (frameIn t b .done)) ≡ doneCount b = length-row (doneCount b) (frameIn t b .done)
+      (length-words (words * doneCount b) (doneAt b) b) in
+      let c : length (glyphsOf (frameIn t b .coming)) ≡ comingCount b = length-row (comingCount b) (frameIn t b .coming)
+      (length-words (words * comingCount b) (comingAt b) b) in
       let o = openingBytes (frameIn t b) in
       let v = wordBytes (frameIn t b .values) in
       let r = wordBytes (frameIn t b .done) ++ wordBytes (frameIn t b .coming) in

@@ -1,4 +1,5 @@
--- Words a word at a time, as the code's loop reads them; what a whole frame keeps to, that a longer line is none, and what a line that is a frame has.
+-- Words a word at a time, as the code's loop reads them; what a whole frame keeps to, that a longer line is none, and what a line that is a frame
+-- has.
 use Prim.Native.Nat.{ℕ, zero, suc, _+_, _-_, _*_, _%_, _≤_, _<_}
 use mathlib.Core.Path.{_≡_, refl, sym, ap, _∙_}
 use mathlib.Core.List.{List, [], _∷_}
@@ -14,7 +15,8 @@ use Rattle.verdict.specs.declared.Table.{Table}
 use Rattle.tape_frame.specs.declared.Kind.{Kind}
 use Rattle.tape_frame.specs.Digits.{spells, bytesOf}
 use Rattle.tape_frame.specs.DigitLaws.{spells-odd, length-bytes}
-use Rattle.tape_frame.specs.Frame.{Frame, mostValues, mostGlyphs, mostBytes, mostDigits, LineRead, aFrame, notFrame, wordAt, wordsAt, tableKind, valueCount, doneCount, comingCount, frameEnd, isWhole, frameIn, wholeFrame, ofKind, readBytes, frameOf}
+use Rattle.tape_frame.specs.Frame.{Frame, mostValues, mostGlyphs, mostBytes, mostDigits, LineRead, aFrame, notFrame, wordAt, wordsAt, tableKind}
+use Rattle.tape_frame.specs.Frame.{valueCount, doneCount, comingCount, frameEnd, isWhole, frameIn, wholeFrame, ofKind, readBytes, frameOf}
 
 module _ (b : List ℕ) (at n i : ℕ) where
   pub words-step : i < n → wordsAt (n - i) (at + 4 * i) b ≡ wordAt b (at + 4 * i) ∷ wordsAt (n - (i + 1)) (at + 4 * (i + 1)) b

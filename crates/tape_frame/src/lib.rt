@@ -5,7 +5,8 @@ ghost use mathlib.Core.Path.{_≡_};
 ghost use Prim.Native.Nat.{_+_, _*_, _≤_};
 ghost use lib.ListN.{length, getD};
 ghost use Rattle.glyph.specs.Glyph.{words};
-ghost use Rattle.tape_frame.specs.Frame.{halfAt, wordAt, wordsAt, opens, tableKind, settingsOf, valueCount, countsAt, doneCount, comingCount, doneAt, comingAt, isWhole, frameIn};
+ghost use Rattle.tape_frame.specs.Frame.{halfAt, wordAt, wordsAt, opens, tableKind, settingsOf, valueCount};
+ghost use Rattle.tape_frame.specs.Frame.{countsAt, doneCount, comingCount, doneAt, comingAt, isWhole, frameIn};
 ghost use Rattle.tape_frame.specs.Decoding.{headOf};
 ghost use Rattle.tape_frame.specs.Put.{put};
 

@@ -1,4 +1,5 @@
--- What a move and a replacement do to a text: a move changes no glyph; a replacement leaves the glyphs before the cursor, and those after it follow what was written.
+-- What a move and a replacement do to a text: a move changes no glyph; a replacement leaves the glyphs before the cursor, and those after it follow
+-- what was written.
 use mathlib.Core.Path.{_≡_, refl, sym, ap, _∙_}
 use mathlib.Core.Bool.{Bool, true, false, not, _||_}
 use mathlib.Core.List.{List, [], _∷_, _++_, append-assoc}
@@ -45,14 +46,16 @@ module _ (write : ℕ → Glyph → Glyph) (ids : List ℕ) (t : Text) where
       rw (append-assoc (take (t .cursor) (t .glyphs)) new (drop (t .cursor + 1) (t .glyphs)))
       (take-at (take (t .cursor) (t .glyphs)) (new ++ drop (t .cursor + 1) (t .glyphs)) (t .cursor) (length-take-le (t .cursor) (t .glyphs) h))
 
-  pub replaced-at-before : (i : ℕ) → t .cursor ≤ length (t .glyphs) → i < t .cursor → getD (replacedBy write ids t .glyphs) i blank ≡ getD (t .glyphs) i blank
+  pub replaced-at-before : (i : ℕ) → t .cursor ≤ length (t .glyphs) → i < t .cursor
+      → getD (replacedBy write ids t .glyphs) i blank ≡ getD (t .glyphs) i blank
   replaced-at-before i h l =
       sym (getD-take (t .cursor) (replacedBy write ids t .glyphs) i blank l)
       ∙ ap (λ (g : List Glyph). getD g i blank) (replaced-before h)
       ∙ getD-take (t .cursor) (t .glyphs) i blank l
 
   -- those after it follow what was written
-  pub replaced-after : t .cursor ≤ length (t .glyphs) → drop (t .cursor + length ids) (replacedBy write ids t .glyphs) ≡ drop (t .cursor + 1) (t .glyphs)
+  pub replaced-after : t .cursor ≤ length (t .glyphs) → drop (t .cursor + length ids) (replacedBy write ids t .glyphs)
+      ≡ drop (t .cursor + 1) (t .glyphs)
   replaced-after h =
       let f = length-take-le (t .cursor) (t .glyphs) h in
       let m : length new ≡ length ids = length-map ids (λ id. write id (getD (t .glyphs) (t .cursor) blank)) in
@@ -87,8 +90,11 @@ fit-exactly done coming s = (
   λ e.
       let a = neither-right (wrongLength done) (wrongLength coming || (ltb limit (s .d) || ltb (s .idx) (s .d))) (e .0) in
       let b = neither-right (wrongLength coming) (ltb limit (s .d) || ltb (s .idx) (s .d)) a in
-      let l : length done ≡ words * limit = eqb-true (length done) (words * limit) (not-false (eqb (length done) (words * limit)) (neither-left (wrongLength done) (wrongLength coming || (ltb limit (s .d) || ltb (s .idx) (s .d))) (e .0))) in
-      let w : length coming ≡ words * limit = eqb-true (length coming) (words * limit) (not-false (eqb (length coming) (words * limit)) (neither-left (wrongLength coming) (ltb limit (s .d) || ltb (s .idx) (s .d)) a)) in
+      let l : length done ≡ words * limit = eqb-true (length done) (words * limit)
+      (not-false (eqb (length done) (words * limit))
+      (neither-left (wrongLength done) (wrongLength coming || (ltb limit (s .d) || ltb (s .idx) (s .d))) (e .0))) in
+      let w : length coming ≡ words * limit = eqb-true (length coming) (words * limit)
+      (not-false (eqb (length coming) (words * limit)) (neither-left (wrongLength coming) (ltb limit (s .d) || ltb (s .idx) (s .d)) a)) in
       let r : s .d ≤ s .idx = ltb-false (s .idx) (s .d) (neither-right (ltb limit (s .d)) (ltb (s .idx) (s .d)) b) in
       let i : s .idx < limit = leb-false limit (s .idx) (e .1) in
       (record { long = l; wide = w; within = omega arith; room = r }, i),
@@ -96,7 +102,12 @@ fit-exactly done coming s = (
       let f = h .0 in
       let i : s .idx < limit = h .1 in
       let r : s .d ≤ s .idx = f .room in (
-        rw (eq-eqb (length done) (words * limit) (f .long), eq-eqb (length coming) (words * limit) (f .wide), le-ltb limit (s .d) (omega arith), le-ltb (s .idx) (s .d) r),
+        rw (
+          eq-eqb (length done) (words * limit) (f .long),
+          eq-eqb (length coming) (words * limit) (f .wide),
+          le-ltb limit (s .d) (omega arith),
+          le-ltb (s .idx) (s .d) r,
+        ),
         lt-leb limit (s .idx) i,
       ),
 )

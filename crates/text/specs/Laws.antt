@@ -5,8 +5,10 @@ use Prim.Native.Nat.{ℕ, zero, suc, _+_, _-_, _*_, _≤_, _<_, min}
 use native.Mathlib.Nat.{add-zero}
 use native.Mathlib.Numerals.{add-one}
 use native.Mathlib.Omega.{arith}
-use lib.ListN.{length, drop-of-length-le, set, length-map, List·getD-map, length-replicate, getD, take, drop, replicate, length-append, length-take, length-drop, take-append-drop}
-use lib.Seq.{length-take-le, take-at, drop-at, drop-drop, take-add, getD-append-add, drop-append-add, getD-drop, paste, paste-zero, paste-suc, take-paste, drop-paste, take-all, drop-length}
+use lib.ListN.{length, drop-of-length-le, set, length-map, List·getD-map, length-replicate, getD}
+use lib.ListN.{take, drop, replicate, length-append, length-take, length-drop, take-append-drop}
+use lib.Seq.{length-take-le, take-at, drop-at, drop-drop, take-add, getD-append-add, drop-append-add, getD-drop}
+use lib.Seq.{paste, paste-zero, paste-suc, take-paste, drop-paste, take-all, drop-length}
 use Rattle.glyph.specs.declared.Glyph.{Glyph}
 use Rattle.glyph.specs.Glyph.{limit, words, Row, glyphsOf, blank}
 use Rattle.glyph.specs.Laws.{length-row}
@@ -65,7 +67,8 @@ copies-more write D d k ids g h l =
     ∙ rw add-one (paste-suc D d (copiesBy write ids g) k (write 0 g) h m)
 
 -- one glyph written
-pub copied-one : (write : ℕ → Glyph → Glyph) (D : List Glyph) (d id : ℕ) (g : Glyph) → d < length D → set D d (write id g) ≡ paste D d (copiesBy write (id ∷ []) g) 1
+pub copied-one : (write : ℕ → Glyph → Glyph) (D : List Glyph) (d id : ℕ) (g : Glyph) → d < length D
+    → set D d (write id g) ≡ paste D d (copiesBy write (id ∷ []) g) 1
 copied-one write D d id g h =
     let m : d + 0 < length D = omega arith in
     ap (λ (n : ℕ). set D n (write id g)) (sym (add-zero d))
@@ -90,7 +93,8 @@ sizes done coming s f =
     record { done-is = a; coming-is = b; within = w; room = l; text-is = simp (length-append, length-drop) (omega arith) }
 
 -- rows of the same lengths fit at another place
-fits-at : (done coming done′ coming′ : List ℕ) (s r : Place) → Fits done coming s → length done′ ≡ length done → length coming′ ≡ length coming → r .d ≤ r .idx → r .idx ≤ limit → Fits done′ coming′ r
+fits-at : (done coming done′ coming′ : List ℕ) (s r : Place) → Fits done coming s → length done′ ≡ length done → length coming′ ≡ length coming
+    → r .d ≤ r .idx → r .idx ≤ limit → Fits done′ coming′ r
 fits-at done coming done′ coming′ s r f a b l w = record { long = a ∙ f .long; wide = b ∙ f .wide; within = w; room = l }
 
 module _ (done coming : List ℕ) (s : Place) (f : Fits done coming s) where
@@ -136,7 +140,14 @@ module _ (done coming : List ℕ) (s : Place) (f : Fits done coming s) where
       let h : s .d ≤ length D = omega arith in
       let m : length W ≡ length ids = length-map ids (λ id. write id (getD C (s .idx) blank)) in
       let t : take (s .d + length ids) (glyphsOf done′) ++ drop (s .idx + 1) C ≡ replacedBy write ids (textOf done coming s) .glyphs =
-      rw (q, take-paste D (s .d) W (length ids) h (omega arith), take-all (length ids) W (omega arith), text-before D C (s .d) (s .idx) h, text-at D C (s .d) (s .idx) h, text-after D C (s .d) (s .idx) h) in
+      rw (
+        q,
+        take-paste D (s .d) W (length ids) h (omega arith),
+        take-all (length ids) W (omega arith),
+        text-before D C (s .d) (s .idx) h,
+        text-at D C (s .d) (s .idx) h,
+        text-after D C (s .d) (s .idx) h,
+      ) in
       record {
         fits = fits-at done coming done′ coming s (record { d = s .d + length ids; idx = s .idx + 1 }) f same refl (omega arith) (omega arith);
         text = λ j. record { glyphs = t j; cursor = s .d + length ids };
@@ -180,5 +191,6 @@ module _ {done coming : List ℕ} {s : Place} {t : Text} (h : Holds done coming 
   pub length-of : length (textOf done coming s .glyphs) ≡ length (t .glyphs)
   length-of = ap (λ (u : Text). length (u .glyphs)) (h .text)
 
-  pub holds-then : {done′ coming′ : List ℕ} {s′ : Place} (f : Text → Text) → Holds done′ coming′ s′ (f (textOf done coming s)) → Holds done′ coming′ s′ (f t)
+  pub holds-then : {done′ coming′ : List ℕ} {s′ : Place} (f : Text → Text) → Holds done′ coming′ s′ (f (textOf done coming s))
+      → Holds done′ coming′ s′ (f t)
   holds-then f g = record { fits = g .fits; text = g .text ∙ ap f (h .text) }

@@ -18,7 +18,8 @@ pub record HoldsOnly (done coming : List ℕ) (s : Place) (t : Text) : Type 0 wh
   pub done-words : done ≡ rowOf (take (s .d) (t .glyphs)) ++ zeros (words * (limit - s .d))
   pub coming-words : coming ≡ zeros (words * s .idx) ++ rowOf (drop (s .d) (t .glyphs))
 
-pub holds-only : (done coming : List ℕ) (s : Place) (t : Text) → Small done → Small coming → Holds done coming s t → Clear done coming s → HoldsOnly done coming s t
+pub holds-only : (done coming : List ℕ) (s : Place) (t : Text) → Small done → Small coming → Holds done coming s t → Clear done coming s
+    → HoldsOnly done coming s t
 holds-only done coming s t a b h c =
     let d = d-is done coming s t h c in
     let i = idx-is done coming s t h c in

@@ -79,7 +79,8 @@ pub fn replace_many(done: &mut [u32], coming: &[u32], s: Place, ids: &[u16]) -> 
     requires { ⌜ Fits (now done) (now coming) s
         × (s .d < length (textOf (now done) (now coming) s .glyphs))
         × (length (textOf (now done) (now coming) s .glyphs) + length (now ids) ≤ limit + 1) ⌝ }
-    ensures { λ r. ⌜ Holds (now (done .exit)) (now (coming .entry)) r (replaced (now (ids .entry)) (textOf (now (done .entry)) (now (coming .entry)) s)) ⌝ }
+    ensures { λ r. ⌜ Holds (now (done .exit)) (now (coming .entry)) r
+        (replaced (now (ids .entry)) (textOf (now (done .entry)) (now (coming .entry)) s)) ⌝ }
 {
     let d = s.d;
     let idx = s.idx;

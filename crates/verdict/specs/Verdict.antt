@@ -87,7 +87,8 @@ Asked = Glyph → MayMatch
 abbrev pub equalTo : ℕ → Asked
 equalTo value g = yesIf (eqb (g .id) value)
 
--- Yes or No by the value (equal id, or any), or Maybe where no test is set. The lists are words lent beside the values; no test of today looks at them
+-- Yes or No by the value (equal id, or any), or Maybe where no test is set. The lists are words lent beside the values; no test of today looks at
+-- them
 unfoldable pub valueBy : Test → List ℕ → ℕ → Asked
 valueBy Equal lists value g = equalTo value g
 valueBy Any lists value g = MayMatch.Yes

@@ -46,8 +46,8 @@ pub enum Verdict {
     Skip,
 }
 
-// How a value is held against a glyph. Functions that take a test also take `lists`, words lent beside the values, for a test that needs more than the
-// value; none of these does.
+// How a value is held against a glyph. Functions that take a test also take `lists`, words lent beside the values, for a test that needs more than
+// the value; none of these does.
 pub enum Test {
     Equal,
     Any,

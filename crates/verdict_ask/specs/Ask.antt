@@ -1,4 +1,5 @@
--- The two questions and the verdict where a user is offered them: on a row and a place, answered or refused by 1 (01, port order 3; that a place past the row is 1 is our reading of its table).
+-- The two questions and the verdict where a user is offered them: on a row and a place, answered or refused by 1 (01, port order 3; that a place past
+-- the row is 1 is our reading of its table).
 -- 01 gives the answers no numbers: 0 with the answer's place in its list (No, Yes, Maybe; Match, NotMatch, Skip) is our choice.
 use Prim.Native.Nat.{ℕ}
 use mathlib.Core.List.{List, [], _∷_}

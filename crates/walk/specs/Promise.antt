@@ -1,5 +1,6 @@
--- What a walk promises, in 01's numbers (01, "Port order", 4, and "When the desk says no", lines 1 and 4): refused by 1 exactly when its row isn't whole glyphs or is
--- over the limit, len is past its row, the place is past len (backward: past its row), or mark sets are odd; else found, or 4 with its extent, each exactly when Means says so.
+-- What a walk promises, in 01's numbers (01, "Port order", 4, and "When the desk says no", lines 1 and 4): refused by 1 exactly when its row isn't
+-- whole glyphs or is over the limit, len is past its row, the place is past len (backward: past its row), or mark sets are odd; else found, or 4 with
+-- its extent, each exactly when Means says so.
 use Prim.Native.Nat.{ℕ, _+_, _%_, _≤_}
 use mathlib.Core.Path.{_≡_}
 use mathlib.Core.List.{List, [], _∷_}
@@ -34,13 +35,17 @@ module _ (row : List ℕ) where
   -- forward from a place: the next glyph tested is one later
   pub record ForwardPromise (len place : ℕ) (m : Matcher) (asked : Asked) (syllable : ℕ) (sets : List ℕ) (answer : Walked) : Type 0 where
     pub refused : (n : ℕ) → (walkReply answer ≡ replies n []) ↔ RefusedBy n (walkLines row len place sets)
-    pub found-0 : (q : ℕ) → (walkReply answer ≡ replies 0 (q ∷ [])) ↔ (Walkable row len place sets × Finds (rowJudge m asked syllable sets) len (place + 1) q)
+    pub found-0 : (q : ℕ) → (walkReply answer ≡ replies 0 (q ∷ []))
+        ↔ (Walkable row len place sets × Finds (rowJudge m asked syllable sets) len (place + 1) q)
     pub lost-4 : (extent : ℕ) → (walkReply answer ≡ replies 4 (extent ∷ []))
-        ↔ (Walkable row len place sets × (Stops (rowJudge m asked syllable sets) len (place + 1) extent ⊎ RunsOut (rowJudge m asked syllable sets) len (place + 1) extent))
+        ↔ (Walkable row len place sets
+        × (Stops (rowJudge m asked syllable sets) len (place + 1) extent ⊎ RunsOut (rowJudge m asked syllable sets) len (place + 1) extent))
 
   -- backward: every glyph of the row counts
   pub record BackwardPromise (place : ℕ) (m : Matcher) (asked : Asked) (syllable : ℕ) (sets : List ℕ) (answer : Walked) : Type 0 where
     pub refused : (n : ℕ) → (walkReply answer ≡ replies n []) ↔ RefusedBy n (walkLines row (length (glyphsOf row)) place sets)
-    pub found-0 : (q : ℕ) → (walkReply answer ≡ replies 0 (q ∷ [])) ↔ (Walkable row (length (glyphsOf row)) place sets × FindsBack (rowJudge m asked syllable sets) place q)
+    pub found-0 : (q : ℕ) → (walkReply answer ≡ replies 0 (q ∷ []))
+        ↔ (Walkable row (length (glyphsOf row)) place sets × FindsBack (rowJudge m asked syllable sets) place q)
     pub lost-4 : (extent : ℕ) → (walkReply answer ≡ replies 4 (extent ∷ []))
-        ↔ (Walkable row (length (glyphsOf row)) place sets × (StopsBack (rowJudge m asked syllable sets) place extent ⊎ RunsOutBack (rowJudge m asked syllable sets) place extent))
+        ↔ (Walkable row (length (glyphsOf row)) place sets
+        × (StopsBack (rowJudge m asked syllable sets) place extent ⊎ RunsOutBack (rowJudge m asked syllable sets) place extent))

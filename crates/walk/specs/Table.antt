@@ -66,9 +66,21 @@ first w false r n = (λ e. absurd (true≢false (sym (r .0 (bare w n e)))), λ e
 
 tells-found : (w : Walked) (q : ℕ) → (walkReply w ≡ replies 0 (q ∷ [])) ↔ (w ≡ Found q)
 tells-found (Found p) q = (λ e. let same = ap (λ (r : Reply). r .values) e in let z : p ≡ q = cc in ap Found z, λ e. ap walkReply e)
-tells-found (Stopped x) q = (λ e. let z : _≡_ {A = ℕ} 4 0 = ap (λ (r : Reply). r .number) e in absurd (omega arith), λ e. let z : _≡_ {A = ℕ} 0 1 = cc in absurd (omega arith))
-tells-found (RanOut x) q = (λ e. let z : _≡_ {A = ℕ} 4 0 = ap (λ (r : Reply). r .number) e in absurd (omega arith), λ e. let z : _≡_ {A = ℕ} 0 1 = cc in absurd (omega arith))
-tells-found Refused q = (λ e. let z : _≡_ {A = ℕ} 1 0 = ap (λ (r : Reply). r .number) e in absurd (omega arith), λ e. let z : _≡_ {A = ℕ} 0 1 = cc in absurd (omega arith))
+tells-found (Stopped x) q = (
+  λ e. let z : _≡_ {A = ℕ} 4 0 = ap (λ (r : Reply). r .number) e in absurd (omega arith),
+  λ e. let z : _≡_ {A = ℕ} 0 1 =
+      cc in absurd (omega arith),
+)
+tells-found (RanOut x) q = (
+  λ e. let z : _≡_ {A = ℕ} 4 0 = ap (λ (r : Reply). r .number) e in absurd (omega arith),
+  λ e. let z : _≡_ {A = ℕ} 0 1 =
+      cc in absurd (omega arith),
+)
+tells-found Refused q = (
+  λ e. let z : _≡_ {A = ℕ} 1 0 = ap (λ (r : Reply). r .number) e in absurd (omega arith),
+  λ e. let z : _≡_ {A = ℕ} 0 1 = cc in
+      absurd (omega arith),
+)
 
 -- stopped or ran out: 4 doesn't tell which
 lost-reply : (w : Walked) (x : ℕ) → (w ≡ Stopped x) ⊎ (w ≡ RanOut x) → walkReply w ≡ replies 4 (x ∷ [])
@@ -90,7 +102,8 @@ found-apart w q e f = let same = sym e ∙ f in let z : _≡_ {A = ℕ} 0 1 = cc
 
 lost-apart : (w : Walked) (x : ℕ) → (w ≡ Stopped x) ⊎ (w ≡ RanOut x) → w ≡ Refused → ⊥
 lost-apart w x o f =
-    ⊎-elim (λ e. let same = sym e ∙ f in let z : _≡_ {A = ℕ} 0 1 = cc in omega arith) (λ e. let same = sym e ∙ f in let z : _≡_ {A = ℕ} 0 1 = cc in omega arith) o
+    ⊎-elim (λ e. let same = sym e ∙ f in let z : _≡_ {A = ℕ} 0 1 = cc in omega arith)
+    (λ e. let same = sym e ∙ f in let z : _≡_ {A = ℕ} 0 1 = cc in omega arith) o
 
 -- ---- any call that refuses by a test, and else means something
 

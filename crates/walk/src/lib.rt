@@ -81,7 +81,8 @@ fn forward_on(
     sets: &[u16],
 ) -> Walked
     requires { ⌜ len ≤ length (glyphsOf (now row)) ⌝ }
-    ensures { λ r. ⌜ r ≡ walkFrom (judgeAt m (valueOf sign (now (lists .entry))) syllable (now (sets .entry)) (glyphsOf (now (row .entry)))) len next ⌝ }
+    ensures { λ r. ⌜ r ≡ walkFrom (judgeAt m (valueOf sign (now (lists .entry))) syllable (now (sets .entry))
+        (glyphsOf (now (row .entry)))) len next ⌝ }
 {
     let mut at = next;
     while at < len {
@@ -107,7 +108,8 @@ pub fn forward_from(
     sets: &[u16],
 ) -> Walked
     requires { ⌜ len ≤ length (glyphsOf (now row)) ⌝ }
-    ensures { λ r. ⌜ r ≡ walkFrom (judgeAt m (valueOf sign (now (lists .entry))) syllable (now (sets .entry)) (glyphsOf (now (row .entry)))) len next ⌝ }
+    ensures { λ r. ⌜ r ≡ walkFrom (judgeAt m (valueOf sign (now (lists .entry))) syllable (now (sets .entry))
+        (glyphsOf (now (row .entry)))) len next ⌝ }
 {
     let mut p = next;
     while p < len {
@@ -129,8 +131,8 @@ pub fn back_extent(p: usize) -> usize
 }
 
 // The backward walk: the next place to test is the one before `place`. A glyph that isn't skip Yes is read anew, so that the compiler loads only the
-// props of one that is. The first place is taken by `back_extent`, not by a subtraction like that at the end of a turn, and the row's beginning is asked
-// for last: the compiler then keeps one counter for the place and not two.
+// props of one that is. The first place is taken by `back_extent`, not by a subtraction like that at the end of a turn, and the row's beginning is
+// asked for last: the compiler then keeps one counter for the place and not two.
 pub fn backward_from(
     row: &[u32],
     place: usize,

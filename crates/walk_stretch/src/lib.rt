@@ -13,8 +13,9 @@ ghost use Rattle.walk_stretch.specs.Outside.{outsideAt, Admits, Grown};
 // Glyphs that are looked at together.
 const BLOCK: usize = 8;
 
-// What a walk must have left to cross anything: two blocks. It looks at the twelfth glyph first, and then at the ninth, tenth, fourteenth and sixteenth. Where
-// every base has the same number of marks, one to nine, one of the five is a base again, so that these short lines aren't taken for long ones.
+// What a walk must have left to cross anything: two blocks. It looks at the twelfth glyph first, and then at the ninth, tenth, fourteenth and
+// sixteenth. Where every base has the same number of marks, one to nine, one of the five is a base again, so that these short lines aren't taken for
+// long ones.
 const LONG: usize = 16;
 
 // The place up to which a forward walk passes over every glyph, as far as is seen; `next` is the next place to test. What the crossing is handed, a
@@ -84,7 +85,8 @@ fn is_mark(props: u16) -> bool
 
 // What the props of four glyphs have in common. It decides the way and not the answer, so it promises nothing.
 fn common(row: &[u32], a: usize, b: usize, c: usize, d: usize) -> u16
-    requires { ⌜ (a < length (glyphsOf (now row))) × (b < length (glyphsOf (now row))) × (c < length (glyphsOf (now row))) × (d < length (glyphsOf (now row))) ⌝ }
+    requires { ⌜ (a < length (glyphsOf (now row))) × (b < length (glyphsOf (now row))) × (c < length (glyphsOf (now row)))
+        × (d < length (glyphsOf (now row))) ⌝ }
 {
     glyph::read(row, a).props
         & glyph::read(row, b).props

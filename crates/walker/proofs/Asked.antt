@@ -1,4 +1,5 @@
--- What a step is asked, the last four parameters of each function that steps: the matcher, the sign, the syllable and the mark sets, these at the signature's second lifetime.
+-- What a step is asked, the last four parameters of each function that steps: the matcher, the sign, the syllable and the mark sets, these at the
+-- signature's second lifetime.
 --     slots, kept, stay, goes      their places in a signature, and that nothing changes in them
 --     Asked, rows, vals, Own      their values, types, machine values, and what they own together
 --     spelled, told                how the machine values are spelled, and that the types' relations tell them
@@ -42,7 +43,10 @@ abbrev pub kept : Kepts slots
 kept = (yes, (yes, (yes, (yes, tt))))
 
 abbrev pub stay : Stays slots kept
-stay = (stay-none (λ _. Ma.the-row) yes, (stay-none (λ _. Si.the-row) yes, (stay-none (λ _. u8) yes, (stay-none-slice (1 ∷ []) tt (plain (λ _. u16)) yes, tt))))
+stay = (
+  stay-none (λ _. Ma.the-row) yes,
+  (stay-none (λ _. Si.the-row) yes, (stay-none (λ _. u8) yes, (stay-none-slice (1 ∷ []) tt (plain (λ _. u16)) yes, tt))),
+)
 
 abbrev pub Asked : Type 0
 Asked = Matcher × (Sign × (ℕ × (RefT (List ℕ) × Unit {0})))
@@ -80,7 +84,13 @@ told κ = (LL.tells Ma.the-type Ma′.the-laws, (LL.tells Si.the-type Si′.the-
 
 module _ {M : Type 1} (𝓤 : URA M) (H : Heap 𝓤) (A : Atoms 𝓤) (W : Given 𝓤 H A) where
   abbrev pub goes : AllGo 𝓤 H A W 2 slots kept stay
-  goes = (goes-none 𝓤 H A W 2 (λ _. Ma.the-row) yes (λ κs x f. refl), (goes-none 𝓤 H A W 2 (λ _. Si.the-row) yes (λ κs x f. refl), (goes-none 𝓤 H A W 2 (λ _. u8) yes (λ κs x f. refl), (goes-none-slice 𝓤 H A W 2 (1 ∷ []) tt (plain (λ _. u16)) yes, tt))))
+  goes = (
+    goes-none 𝓤 H A W 2 (λ _. Ma.the-row) yes (λ κs x f. refl),
+    (
+      goes-none 𝓤 H A W 2 (λ _. Si.the-row) yes (λ κs x f. refl),
+      (goes-none 𝓤 H A W 2 (λ _. u8) yes (λ κs x f. refl), (goes-none-slice 𝓤 H A W 2 (1 ∷ []) tt (plain (λ _. u16)) yes, tt)),
+    ),
+  )
 
   pub twice : (κ : Lft) (x : Asked) → ent 𝓤 (sem 𝓤 H A (Own κ x)) (sep 𝓤 (sem 𝓤 H A (Own κ x)) (sem 𝓤 H A (Own κ x)))
   twice κ x =
@@ -96,4 +106,5 @@ module _ {M : Type 1} (𝓤 : URA M) (H : Heap 𝓤) (A : Atoms 𝓤) (W : Given
       -- [sets; sets; true; syllable; syllable; sign; sign; matcher; matcher]
       move ! (0 ∷ 2 ∷ []) $ fjoin ! $ move ! (2 ∷ 0 ∷ []) $ fjoin ! $ move ! (3 ∷ 0 ∷ []) $ fjoin ! $ move ! (4 ∷ 0 ∷ []) $ fjoin ! $ frame ! $
       -- [sets; syllable; sign; matcher]
-      nothing ! $ move ! (1 ∷ 0 ∷ []) $ fjoin ! $ move ! (1 ∷ 0 ∷ []) $ fjoin ! $ move ! (1 ∷ 0 ∷ []) $ fjoin ! $ move ! (1 ∷ 0 ∷ []) $ fjoin ! $ done !
+      nothing ! $ move ! (1 ∷ 0 ∷ []) $ fjoin ! $ move ! (1 ∷ 0 ∷ []) $ fjoin ! $ move ! (1 ∷ 0 ∷ []) $ fjoin ! $ move ! (1 ∷ 0 ∷ []) $ fjoin ! $
+      done !

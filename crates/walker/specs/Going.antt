@@ -48,7 +48,12 @@ open-still row len place len′ place′ sets e h k =
     let past = ltb (length (glyphsOf row)) len in
     let e₃ = neither-left ((shape || past) || ltb len place) (oddSets sets) e in
     let e₂ = neither-left (shape || past) (ltb len place) e₃ in
-    rw (neither-left shape past e₂, le-ltb (length (glyphsOf row)) len′ k, le-ltb len′ place′ h, neither-right ((shape || past) || ltb len place) (oddSets sets) e) refl
+    rw (
+      neither-left shape past e₂,
+      le-ltb (length (glyphsOf row)) len′ k,
+      le-ltb len′ place′ h,
+      neither-right ((shape || past) || ltb len place) (oddSets sets) e,
+    ) refl
 
 module _ (row : List ℕ) (m : Matcher) (asked : Asked) (syllable : ℕ) (sets : List ℕ) where
   abbrev judge : ℕ → Verdict
@@ -85,7 +90,8 @@ module _ (row : List ℕ) (m : Matcher) (asked : Asked) (syllable : ℕ) (sets :
     backward-open false t = t
 
     pub backward-finds : FindsBack judge place q
-    backward-finds = backward-means row m asked syllable sets place (Found q) (backward-open (badWalk row (length (glyphsOf row)) place sets) refl) .0 e
+    backward-finds = backward-means row m asked syllable sets place (Found q)
+        (backward-open (badWalk row (length (glyphsOf row)) place sets) refl) .0 e
 
     pub backward-further : q < place
     backward-further = backward-finds .earlier

@@ -19,7 +19,8 @@ div-result c = search needs
 
 returns-2 : tie.Need-returns-2
 returns-2 c = let a = c .before .args in
-    ltb-same (a .left / a .size) (a .count) (a .left) (a .count * a .size) (λ h. div-lt-iff-lt-mul (omega arith) .1 h) (λ h. le-div-iff-mul-le (omega arith) .1 h)
+    ltb-same (a .left / a .size) (a .count) (a .left) (a .count * a .size) (λ h. div-lt-iff-lt-mul (omega arith) .1 h)
+    (λ h. le-div-iff-mul-le (omega arith) .1 h)
 
 pub exceeds-spec : {M : Type 1} → statement M
 exceeds-spec = tie.close (tie.spec returns div-result returns-2)

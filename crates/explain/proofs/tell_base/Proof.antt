@@ -17,7 +17,8 @@ read-requires : tie.Need-read-requires
 read-requires c κs =
     let a = c .before .before .before .before .before .args in
     let gs = glyphsOf (a .searched .now) in
-    base-found (a .id) gs (length gs) (c .before .j .given .0 .0) .0 (sym (c .before .before .before .find-base .ensures) ∙ c .before .j .given .1) .inside
+    base-found (a .id) gs (length gs) (c .before .j .given .0 .0) .0 (sym (c .before .before .before .find-base .ensures)
+    ∙ c .before .j .given .1) .inside
 
 slice-aggregate-may-skip : tie.Need-slice-aggregate-may-skip
 slice-aggregate-may-skip c = search needs

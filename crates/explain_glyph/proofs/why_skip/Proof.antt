@@ -29,7 +29,12 @@ why-no-requires c κs = search needs
 
 returns-3 : tie.Need-returns-3
 unfolding skipReason
-returns-3 c = rw (← c .before .before .before .before .is-skip-yes .ensures, c .before .before .before .if1 .left, ← c .before .before .is-ignorable .ensures, c .before .if2 .left) (c .why-no .ensures)
+returns-3 c = rw (
+  ← c .before .before .before .before .is-skip-yes .ensures,
+  c .before .before .before .if1 .left,
+  ← c .before .before .is-ignorable .ensures,
+  c .before .if2 .left,
+) (c .why-no .ensures)
 
 pub why-skip-spec : {M : Type 1} → statement M
 why-skip-spec =

@@ -28,7 +28,8 @@ returns : tie.Need-returns Inv-loop μ-loop
 returns c =
     let a = c .before .before .before .before .before .before .args in
     let l = c .before .before .before .before .loop in
-    sym (l .inv .1 ∙ bad-on (a .line .now) (l .i) (omega arith) ∙ rw (← c .before .is-digit .ensures, not-true (c .before .is-digit .result) (c .if1 .taken)))
+    sym (l .inv .1 ∙ bad-on (a .line .now) (l .i) (omega arith)
+    ∙ rw (← c .before .is-digit .ensures, not-true (c .before .is-digit .result) (c .if1 .taken)))
 
 add-i : tie.Need-add-i Inv-loop μ-loop
 add-i c = search needs
@@ -39,8 +40,11 @@ loop-less c = search needs
 loop-again : tie.Need-loop-again Inv-loop μ-loop
 loop-again c =
     let a = c .before .before .before .before .before .before .args in
-    let l = c .before .before .before .before .loop in
-    (omega arith, l .inv .1 ∙ bad-on (a .line .now) (l .i) (omega arith) ∙ rw (← c .before .is-digit .ensures, not-false (c .before .is-digit .result) (c .if1 .left)))
+    let l = c .before .before .before .before .loop in (
+      omega arith,
+      l .inv .1 ∙ bad-on (a .line .now) (l .i) (omega arith)
+          ∙ rw (← c .before .is-digit .ensures, not-false (c .before .is-digit .result) (c .if1 .left)),
+    )
 
 returns-2 : tie.Need-returns-2 Inv-loop μ-loop
 returns-2 c =

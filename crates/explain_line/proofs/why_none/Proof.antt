@@ -18,11 +18,21 @@ returns-2 c = rw (le-ltb _ _ (c .before .before .if1 .left), ← c .before .firs
 
 returns-3 : tie.Need-returns-3
 unfolding faultOf
-returns-3 c = rw (le-ltb _ _ (c .before .before .before .if1 .left), ← c .before .before .first-bad .ensures, le-ltb _ _ (c .before .if2 .left), ne-eqb _ _ (c .if3 .taken))
+returns-3 c = rw (
+  le-ltb _ _ (c .before .before .before .if1 .left),
+  ← c .before .before .first-bad .ensures,
+  le-ltb _ _ (c .before .if2 .left),
+  ne-eqb _ _ (c .if3 .taken),
+)
 
 returns-4 : tie.Need-returns-4
 unfolding faultOf
-returns-4 c = rw (le-ltb _ _ (c .before .before .before .if1 .left), ← c .before .before .first-bad .ensures, le-ltb _ _ (c .before .if2 .left), eq-eqb _ _ (c .if3 .left))
+returns-4 c = rw (
+  le-ltb _ _ (c .before .before .before .if1 .left),
+  ← c .before .before .first-bad .ensures,
+  le-ltb _ _ (c .before .if2 .left),
+  eq-eqb _ _ (c .if3 .left),
+)
 
 pub why-none-spec : {M : Type 1} → statement M
 why-none-spec = tie.close (tie.spec returns first-bad-requires returns-2 returns-3 returns-4)

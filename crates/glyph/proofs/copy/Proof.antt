@@ -27,8 +27,13 @@ mul-end : tie.Need-mul-end Inv-loop μ-loop
 mul-end c = omega (arith, length-glyphsOf (c .args .to .now), length-glyphsOf (c .args .from .now))
 
 loop-holds : tie.Need-loop-holds Inv-loop μ-loop
-loop-holds c = let a = c .args in
-    (omega arith, refl, omega (arith, length-glyphsOf (a .to .now)), omega (arith, length-glyphsOf (a .from .now)), paste-zero (a .to .now) (words * a .j) (drop (words * a .i) (a .from .now)))
+loop-holds c = let a = c .args in (
+  omega arith,
+  refl,
+  omega (arith, length-glyphsOf (a .to .now)),
+  omega (arith, length-glyphsOf (a .from .now)),
+  paste-zero (a .to .now) (words * a .j) (drop (words * a .i) (a .from .now)),
+)
 
 add-to : tie.Need-add-to Inv-loop μ-loop
 add-to c = omega arith

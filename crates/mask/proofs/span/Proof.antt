@@ -19,7 +19,8 @@ sub-result c = let a = c .args .a in let b = c .args .b in
 
 add-result : tie.Need-add-result
 add-result c = let a = c .args .a in let b = c .args .b in
-    rw (shifted a (omega arith), shifted b (omega arith)) (omega (arith, pow-le a b (omega arith), pow-le (b + 1) 64 (omega arith), pow-add 2 b 1, pow-pos a))
+    rw (shifted a (omega arith), shifted b (omega arith))
+    (omega (arith, pow-le a b (omega arith), pow-le (b + 1) 64 (omega arith), pow-add 2 b 1, pow-pos a))
 
 returns : tie.Need-returns
 returns c = λ k. let a = c .args .a in let b = c .args .b in

@@ -71,7 +71,8 @@ loop-holds c =
     let ok = joins (a .m) (a .sets .now) (glyphsOf (a .searched .now)) gs (a .idx) in
     let small : c .before .read .result .count ≤ 255 = omega (arith, c .struct-known .given) in
     let told = c .before .read .ensures in (
-      subst (λ (l : List ℕ). Going gs on ok (a .idx) (a .values .now) (set l 0 (a .idx)) (c .before .read .result .count) (a .idx + 1) 0) (sym (s .pre .1))
+      subst (λ (l : List ℕ). Going gs on ok (a .idx) (a .values .now) (set l 0 (a .idx)) (c .before .read .result .count) (a .idx + 1) 0)
+          (sym (s .pre .1))
           (subst (λ (g : Glyph). Going gs on ok (a .idx) (a .values .now) (slotted (a .idx ∷ [])) (g .count) (a .idx + 1) 0) (sym told)
           (going-none gs on ok (a .idx) (a .values .now) (s .pre .0 .0) (subst (λ (g : Glyph). g .count ≤ 255) told small))),
       tt,
@@ -170,10 +171,12 @@ module _ (c : tie.After-is-skip-yes Inv-loop μ-loop) where
       walks (gs round) (on round) (ok round) (idx round) (values round) (l .positions) (l .total) (next round) (i round) (going round) r inside e
 
   skipped : judged ≡ Skip
-      → Going (gs round) (on round) (ok round) (idx round) (values round) (round .before .loop .positions) (round .before .loop .total) (next round + 1) (i round)
+      → Going (gs round) (on round) (ok round) (idx round) (values round) (round .before .loop .positions) (round .before .loop .total)
+      (next round + 1) (i round)
   skipped e =
       let l = round .before .loop in
-      going-skip (gs round) (on round) (ok round) (idx round) (values round) (l .positions) (l .total) (next round) (i round) (going round) (due round) inside e
+      going-skip (gs round) (on round) (ok round) (idx round) (values round) (l .positions) (l .total) (next round) (i round) (going round)
+      (due round) inside e
 
 mul-value : tie.Need-mul-value Inv-loop μ-loop
 mul-value c = let r = c .before .before .before .before in omega (arith, due r, start r .pre .0 .2)
@@ -233,7 +236,8 @@ module _ (c : tie.After-may-join Inv-loop μ-loop) where
       subst (λ (b : Ligbase). Known b skips) (sym (c .before .look-for-base .ensures))
       (looked-known (l .base) (baseNeeded (first r) (this test)) skips (l .inv .1))
 
-  found : walkFrom (on (round test) (getD (values (round test)) (i (round test)) 0)) (length (gs (round test))) (next (round test)) ≡ Found (next (round test))
+  found : walkFrom (on (round test) (getD (values (round test)) (i (round test)) 0)) (length (gs (round test))) (next (round test))
+      ≡ Found (next (round test))
   found = walked test Match (rest said ∙ c .before .before .enum-told .given .1)
 
   more : c .may-join .result ≡ true → this test .ligated ≤ 255
@@ -244,7 +248,8 @@ module _ (c : tie.After-may-join Inv-loop μ-loop) where
       let r = round test in
       let l = r .before .loop in
       let told = test .before .read2 .ensures in
-      subst (λ (g : Glyph). Going (gs r) (on r) (ok r) (idx r) (values r) (set (l .positions) (i r + 1) (next r)) (l .total + g .ligated) (next r + 1) (i r + 1))
+      subst (λ (g : Glyph). Going (gs r) (on r) (ok r) (idx r) (values r) (set (l .positions) (i r + 1) (next r)) (l .total + g .ligated) (next r + 1)
+      (i r + 1))
       (sym told)
       (going-more (gs r) (on r) (ok r) (idx r) (values r) (l .positions) (l .total) (next r) (i r) (going r) (next r)
       (due r) (start r .pre .0 .2) (inside test) (subst (λ (g : Glyph). g .ligated ≤ 255) told small) found (kept ∙ e))
@@ -348,7 +353,8 @@ returns-4 c =
     let gs = glyphsOf (a .text .now) in
     let n : length (a .values .now) + 1 ≡ l .i + 1 = omega (arith, l .inv .0 .within, c .loop-test .left) in
     (λ j. record { answer = InputAnswer.Matched (l .next) (l .total); count = n j; positions = l .positions })
-    ∙ sym (going-done gs (judge (a .m) (a .sets .now) (valueBy (a .test) (a .lists .now)) (getD gs (a .idx) blank .syllable) gs) (joins (a .m) (a .sets .now) (glyphsOf (a .searched .now)) gs (a .idx))
+    ∙ sym (going-done gs (judge (a .m) (a .sets .now) (valueBy (a .test) (a .lists .now)) (getD gs (a .idx) blank .syllable) gs)
+    (joins (a .m) (a .sets .now) (glyphsOf (a .searched .now)) gs (a .idx))
     (a .idx) (a .values .now) (l .positions) (l .total) (l .next) (l .i) (l .inv .0) (omega arith))
 
 pub take-input-spec : {M : Type 1} → statement M

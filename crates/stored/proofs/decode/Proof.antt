@@ -14,7 +14,8 @@ use Rattle.stored.proofs.decode.Statement.{statement}
 use Rattle.stored.proofs.decode.Tie as tie
 
 abbrev Inv-loop : tie.InvT-loop
-Inv-loop text words₀ n k₀ words k = (k ≤ n) × (length words ≡ length words₀) × ((j : ℕ) → getD words j 0 ≡ cond (ltb j k) (storedWord text j) (getD words₀ j 0))
+Inv-loop text words₀ n k₀ words k = (k ≤ n) × (length words ≡ length words₀)
+    × ((j : ℕ) → getD words j 0 ≡ cond (ltb j k) (storedWord text j) (getD words₀ j 0))
 
 abbrev μ-loop : tie.MeasureT-loop
 μ-loop text words₀ n k₀ words k = n - k
@@ -48,7 +49,8 @@ unfolding storedWord
 loop-again c = let a = c .before .before .before .before .before .before .args in let l = c .before .before .loop in (
   omega arith,
   simp length-set (l .inv .1),
-  filled-more (l .words) (a .words .now) (storedWord (a .text .now)) (l .k) (c .eight .result) (omega (arith, c .before .before .before .least .ensures)) (l .inv .2) (c .eight .ensures),
+  filled-more (l .words) (a .words .now) (storedWord (a .text .now)) (l .k) (c .eight .result)
+      (omega (arith, c .before .before .before .least .ensures)) (l .inv .2) (c .eight .ensures),
 )
 
 same-length : tie.Need-same-length Inv-loop μ-loop

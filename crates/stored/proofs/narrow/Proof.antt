@@ -12,7 +12,8 @@ use Rattle.stored.proofs.narrow.Statement.{statement}
 use Rattle.stored.proofs.narrow.Tie as tie
 
 abbrev Inv-loop : tie.InvT-loop
-Inv-loop words out₀ n k₀ out k = (k ≤ n) × (length out ≡ length out₀) × ((j : ℕ) → getD out j 0 ≡ cond (ltb j k) (getD words j 0 % 65536) (getD out₀ j 0))
+Inv-loop words out₀ n k₀ out k =
+    (k ≤ n) × (length out ≡ length out₀) × ((j : ℕ) → getD out j 0 ≡ cond (ltb j k) (getD words j 0 % 65536) (getD out₀ j 0))
 
 abbrev μ-loop : tie.MeasureT-loop
 μ-loop words out₀ n k₀ out k = n - k
@@ -48,7 +49,8 @@ loop-again : tie.Need-loop-again Inv-loop μ-loop
 loop-again c = let a = c .before .before .before .before .before .before .args in let l = c .before .before .loop in (
   omega arith,
   simp length-set (l .inv .1),
-  filled-more (l .out) (a .out .now) (λ j. getD (a .words .now) j 0 % 65536) (l .k) _ (omega (arith, c .before .before .before .least .ensures)) (l .inv .2) refl,
+  filled-more (l .out) (a .out .now) (λ j. getD (a .words .now) j 0 % 65536) (l .k) _ (omega (arith, c .before .before .before .least .ensures))
+      (l .inv .2) refl,
 )
 
 same-length : tie.Need-same-length Inv-loop μ-loop

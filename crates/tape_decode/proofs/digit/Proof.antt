@@ -46,13 +46,27 @@ returns-6 : tie.Need-returns-6
 unfolding digit
 returns-6 c =
     let b = c .before .before .before .before .before .before .args .b in
-    rw (le-ltb b 48 (omega arith), le-ltb b 58 (omega arith), le-ltb b 65 (omega arith), le-ltb b 71 (omega arith), le-ltb b 97 (omega arith), lt-ltb b 103 (omega arith))
+    rw (
+      le-ltb b 48 (omega arith),
+      le-ltb b 58 (omega arith),
+      le-ltb b 65 (omega arith),
+      le-ltb b 71 (omega arith),
+      le-ltb b 97 (omega arith),
+      lt-ltb b 103 (omega arith),
+    )
 
 returns-7 : tie.Need-returns-7
 unfolding digit
 returns-7 c =
     let b = c .before .before .before .before .before .before .args .b in
-    rw (le-ltb b 48 (omega arith), le-ltb b 58 (omega arith), le-ltb b 65 (omega arith), le-ltb b 71 (omega arith), le-ltb b 97 (omega arith), le-ltb b 103 (omega arith))
+    rw (
+      le-ltb b 48 (omega arith),
+      le-ltb b 58 (omega arith),
+      le-ltb b 65 (omega arith),
+      le-ltb b 71 (omega arith),
+      le-ltb b 97 (omega arith),
+      le-ltb b 103 (omega arith),
+    )
 
 pub digit-spec : {M : Type 1} → statement M
 digit-spec =

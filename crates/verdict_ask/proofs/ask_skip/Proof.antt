@@ -24,7 +24,8 @@ may-skip-requires c κs = search needs
 
 returns-2 : tie.Need-returns-2
 unfolding askSkip
-returns-2 c = rw (← c .before .before .before .is-refused .ensures, c .before .before .if1 .left, ← c .before .read .ensures) (ap SkipAnswer.Said (c .may-skip .ensures))
+returns-2 c = rw (← c .before .before .before .is-refused .ensures, c .before .before .if1 .left, ← c .before .read .ensures)
+    (ap SkipAnswer.Said (c .may-skip .ensures))
 
 pub ask-skip-spec : {M : Type 1} → statement M
 ask-skip-spec = tie.close (tie.spec is-refused-requires returns read-requires may-skip-requires returns-2)

@@ -27,7 +27,8 @@ less-requires c κs = let a = c .before .before .args in
 returns-2 : tie.Need-returns-2
 returns-2 c = let a = c .before .before .before .args in
     ap (λ (n : ℕ). chargeTaken (budgetWith (a .self .work) n)) (c .less .ensures .0)
-    ∙ sym (allocated-within (a .self) (a .count) (a .size) (ltb-false (a .self .bytes) (a .count * a .size) (sym (c .before .before .exceeds .ensures) ∙ c .before .if1 .left)) (c .less .ensures .1))
+    ∙ sym (allocated-within (a .self) (a .count) (a .size)
+    (ltb-false (a .self .bytes) (a .count * a .size) (sym (c .before .before .exceeds .ensures) ∙ c .before .if1 .left)) (c .less .ensures .1))
 
 pub alloc-spec : {M : Type 1} → statement M
 alloc-spec = tie.close (tie.spec exceeds-requires exhausted-requires returns less-requires returns-2)

@@ -17,7 +17,8 @@ input-told-requires : tie.Need-input-told-requires
 input-told-requires c κs = search needs
 
 returns : tie.Need-returns
-returns c = c .input-told .ensures ∙ rw (c .before .match-input .ensures, c .before .before .test-of .ensures, c .before .before .before .asked .ensures)
+returns c = c .input-told .ensures
+    ∙ rw (c .before .match-input .ensures, c .before .before .test-of .ensures, c .before .before .before .asked .ensures)
 
 pub cb-match-input-spec : {M : Type 1} → statement M
 cb-match-input-spec =

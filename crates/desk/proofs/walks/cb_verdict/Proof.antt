@@ -17,7 +17,8 @@ said-verdict-requires : tie.Need-said-verdict-requires
 said-verdict-requires c κs = search needs
 
 returns : tie.Need-returns
-returns c = c .said-verdict .ensures ∙ rw (c .before .ask-verdict .ensures, c .before .before .sign .ensures, c .before .before .before .matcher .ensures)
+returns c = c .said-verdict .ensures
+    ∙ rw (c .before .ask-verdict .ensures, c .before .before .sign .ensures, c .before .before .before .matcher .ensures)
 
 pub cb-verdict-spec : {M : Type 1} → statement M
 cb-verdict-spec =

@@ -13,7 +13,8 @@ use Rattle.digest.proofs.SetDigest.union.Statement.{statement}
 use Rattle.digest.proofs.SetDigest.union.Tie as tie
 
 abbrev Inv-loop : tie.InvT-loop
-Inv-loop old others masks₀ i₀ masks i = (i ≤ 3) × (length masks ≡ 3) × Made i masks (united (λ j k. bit k (getD old j 0)) (λ j k. bit k (getD others j 0)))
+Inv-loop old others masks₀ i₀ masks i = (i ≤ 3) × (length masks ≡ 3) × Made i masks
+    (united (λ j k. bit k (getD old j 0)) (λ j k. bit k (getD others j 0)))
 
 abbrev μ-loop : tie.MeasureT-loop
 μ-loop old others masks₀ i₀ masks i = 3 - i
@@ -49,7 +50,8 @@ loop-again : tie.Need-loop-again Inv-loop μ-loop
 loop-again c = let l = c .before .loop in let a = c .before .before .before .before .args in (
   omega arith,
   simp length-set (l .inv .1),
-  made-more (l .masks) (united (λ j k. bit k (getD (a .self .masks) j 0)) (λ j k. bit k (getD (a .other .masks) j 0))) (l .i) _ (omega arith) (l .inv .2)
+  made-more (l .masks) (united (λ j k. bit k (getD (a .self .masks) j 0)) (λ j k. bit k (getD (a .other .masks) j 0))) (l .i) _ (omega arith)
+      (l .inv .2)
       (λ k h. or-bit k (getD (a .self .masks) (l .i) 0) (getD (a .other .masks) (l .i) 0)),
 )
 
