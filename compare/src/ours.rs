@@ -317,8 +317,8 @@ impl CMatched {
     }
 }
 
-/// A case of test with the number that stands for it; of those that mean no
-/// test, any must do.
+/// A case of test with the number that stands for it. Several numbers mean no
+/// test: `spare` is one of them, and the answer must be the same for each.
 pub fn test_number(testing: Testing, spare: u8) -> u8 {
     match testing {
         Testing::Equal => 0,

@@ -270,15 +270,15 @@ impl Abuse {
         let mut command = piped();
         beforehand(&mut command, ignore_broken_pipes);
         let did = unread(command);
-        self.report("the reader is gone, SIGPIPE ignored", did, "status 0, reads all");
+        self.report("the reader is gone, SIGPIPE ignored", did, "status 0, stops reading");
         let mut command = program::tape();
         beforehand(&mut command, || close_it(1));
         let did = unread(command);
-        self.report("output is closed", did, "status 0, reads all");
+        self.report("output is closed", did, "status 0, stops reading");
         let mut command = program::tape();
         command.stdout(File::options().write(true).open("/dev/full").expect("a full device"));
         let did = unread(command);
-        self.report("output is a full device", did, "status 0, reads all");
+        self.report("output is a full device", did, "status 0, stops reading");
     }
 
     fn broken_inputs(&mut self) {
