@@ -762,7 +762,7 @@ TABLE = {
         "an_unreadable_book_is_a_bad_match": (
             k11(book=[0]), "refused for its Book, no word changed", "refused for its Match, no word changed",
         ),
-        "cells_outside_are_not_cleared": (
+        "cells_are_cleared_by_the_first_place": (
             k11(),
             K11_ANSWER,
             f"Finished, spent 1, d 4, idx 1024, 4 at [0, 1, 2, 3], text {' '.join(['[0, 0, 0, 0]'] * 4)}, cells left",
