@@ -1,6 +1,7 @@
 // What a frame of the bench tape was answered, and why: on standard input frames, a line each; on standard output what the
 // matcher saw of each glyph, in words, and the tape's answer. What is said comes from proved functions: `explain_glyph` and `explain_line` for the
-// reasons, `tape_frame`, `matching_calls` and `tape_answer` for the answer.
+// reasons, `tape_frame`, `matching_calls` and `tape_answer` for the answer. Where standard output takes no more, standard error says so, and no more
+// frames are read.
 mod answer;
 mod head;
 mod rows;
@@ -10,6 +11,7 @@ use crate::words::ROOM;
 use explain_glyph::Joined;
 use explain_glyph::Turn;
 use glyph::Glyph;
+use libc::STDERR_FILENO;
 use libc::STDIN_FILENO;
 use ligature::Base;
 use ligature::Ligbase;
@@ -27,11 +29,13 @@ ghost use Rattle.glyph.specs.Glyph.{glyphsOf};
 ghost use Rattle.tape_frame.specs.Decoding.{Bounded};
 ghost use Rattle.tape_answer.specs.Feeding.{mostKept};
 
-// What is kept from read to read: the bytes of the line so far, and the number of lines before it.
+// What is kept from read to read: the bytes of the line so far, and the number of lines before it. No more is read where the input has ended or where
+// answers are lost.
 pub struct Turns {
     pub kept: usize,
     pub lines: u64,
     pub more: bool,
+    pub lost: bool,
 }
 
 // ---- a frame
@@ -266,7 +270,8 @@ fn tell_answer(frame: &[u8], text: &mut [u8; ROOM]) {
     words::end(text, 0);
 }
 
-fn tell_line(frame: &[u8], lines: u64) {
+// False where it could not be written.
+fn tell_line(frame: &[u8], lines: u64) -> bool {
     let mut text = [0u8; ROOM];
     let mut values = [0u32; tape_frame::MOST_VALUES];
     let mut done = [0u32; tape_frame::ROW];
@@ -276,6 +281,7 @@ fn tell_line(frame: &[u8], lines: u64) {
         Decoded::Frame(h) => tell_frame(&mut text, lines, h, &values, &done, &coming),
     }
     tell_answer(frame, &mut text);
+    !words::is_lost(&text)
 }
 
 // ---- the input
@@ -299,17 +305,19 @@ fn take_byte(kept: &mut [u8; tape_answer::MOST_KEPT], n: usize, lines: u64, b: u
     if b == tape_answer::NEWLINE {
         let line = &kept[..];
         let now = std::num::wrapping_add_u64(lines, 1);
-        tell_line(&line[0..n], now);
+        let told = tell_line(&line[0..n], now);
         return Turns {
             kept: 0,
             lines: now,
-            more: true,
+            more: told,
+            lost: !told,
         };
     }
     Turns {
         kept: keep(kept, n, b),
         lines,
         more: true,
+        lost: false,
     }
 }
 
@@ -322,6 +330,9 @@ fn take_piece(piece: &[u8], kept: &mut [u8; tape_answer::MOST_KEPT], n: usize, l
     let mut at = 0;
     while at < piece.len() {
         let t = take_byte(kept, held, told, piece[at]);
+        if t.lost {
+            return t;
+        }
         held = t.kept;
         told = t.lines;
         at += 1;
@@ -330,6 +341,7 @@ fn take_piece(piece: &[u8], kept: &mut [u8; tape_answer::MOST_KEPT], n: usize, l
         kept: held,
         lines: told,
         more: true,
+        lost: false,
     }
 }
 
@@ -344,13 +356,14 @@ fn one_read(kept: &mut [u8; tape_answer::MOST_KEPT], n: usize, lines: u64) -> Tu
             kept: n,
             lines,
             more: false,
+            lost: false,
         };
     }
     let size = io::count(got, &space);
     take_piece(&space[..size], kept, n, lines)
 }
 
-// Reads to the end, and says what is kept of a last line that lacks its 0A.
+// Reads to the end, or until answers are lost, and says what is kept of a last line that lacks its 0A.
 fn read_all(kept: &mut [u8; tape_answer::MOST_KEPT]) -> Turns
     ensures { λ r. ⌜ r .kept ≤ mostKept ⌝ }
 {
@@ -370,17 +383,29 @@ fn read_all(kept: &mut [u8; tape_answer::MOST_KEPT]) -> Turns
         kept: n,
         lines,
         more: false,
+        lost: false,
     }
+}
+
+// A program has no exit status of its own: who starts it learns from this line that answers are missing.
+fn complain() {
+    io::write_all(STDERR_FILENO, b"explain: answers could not be written\n");
 }
 
 fn run(kept: &mut [u8; tape_answer::MOST_KEPT]) {
     let t = read_all(kept);
+    if t.lost {
+        complain();
+        return;
+    }
     let n = t.kept;
     if n == 0 {
         return;
     }
     let line = &kept[..];
-    tell_line(&line[0..n], std::num::wrapping_add_u64(t.lines, 1));
+    if !tell_line(&line[0..n], std::num::wrapping_add_u64(t.lines, 1)) {
+        complain();
+    }
 }
 
 fn main() {

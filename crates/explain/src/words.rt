@@ -8,8 +8,10 @@ ghost use Rattle.explain_line.specs.Words.{EndsIn};
 
 pub const COLUMNS: usize = 100;
 
-// One more, for what ends the line.
-pub const ROOM: usize = COLUMNS + 1;
+// One more for what ends the line, and one that isn't written: it is 0 until a line could not be written.
+pub const ROOM: usize = COLUMNS + 2;
+
+const LOST: usize = COLUMNS + 1;
 
 // Where a line begins that goes on with the one before, and where it does in the column of reasons.
 const MARGIN: usize = 4;
@@ -19,14 +21,24 @@ const REASON: usize = 55;
 // What a number or a position takes in a list, at most: a blank and ten digits.
 const ENTRY: usize = 11;
 
-// The line is written, and the next one begins at its first column.
+// The line is written, and the next one begins at its first column. Behind a line that could not be written none is.
 pub(crate) fn end(text: &mut [u8; ROOM], at: usize)
     requires { ⌜ at ≤ 100 ⌝ }
 {
+    if is_lost(text) {
+        return;
+    }
     text[at] = b'\n';
     let size = at + 1;
     let all = &text[..];
-    io::write_all(STDOUT_FILENO, &all[0..size]);
+    if !io::write_all(STDOUT_FILENO, &all[0..size]) {
+        text[LOST] = 1;
+    }
+}
+
+// Whether a line could not be written.
+pub(crate) fn is_lost(text: &[u8; ROOM]) -> bool {
+    text[LOST] != 0
 }
 
 fn blanks(text: &mut [u8; ROOM], at: usize, column: usize) -> usize

@@ -21,6 +21,9 @@ shared-slice-read-take-byte c = search needs
 take-byte-requires : tie.Need-take-byte-requires Inv-loop μ-loop
 take-byte-requires c κs = search needs
 
+returns : tie.Need-returns Inv-loop μ-loop
+returns c = search needs
+
 add-at : tie.Need-add-at Inv-loop μ-loop
 add-at c = search needs
 
@@ -30,8 +33,8 @@ loop-less c = search needs
 loop-again : tie.Need-loop-again Inv-loop μ-loop
 loop-again c = search needs
 
-returns : tie.Need-returns Inv-loop μ-loop
-returns c = search needs
+returns-2 : tie.Need-returns-2 Inv-loop μ-loop
+returns-2 c = search needs
 
 pub take-piece-spec : {M : Type 1} → statement M
 take-piece-spec =
@@ -42,7 +45,8 @@ take-piece-spec =
     loop-holds
     shared-slice-read-take-byte
     take-byte-requires
+    returns
     add-at
     loop-less
     loop-again
-    returns)
+    returns-2)

@@ -31,6 +31,9 @@ tell-frame-requires c κs =
 tell-answer-requires : tie.Need-tell-answer-requires
 tell-answer-requires c κs = search needs
 
+is-lost-requires : tie.Need-is-lost-requires
+is-lost-requires c κs = search needs
+
 returns : tie.Need-returns
 returns c = search needs
 
@@ -45,4 +48,5 @@ tell-line-spec =
     enum-known-h
     tell-frame-requires
     tell-answer-requires
+    is-lost-requires
     returns)
