@@ -22,7 +22,6 @@ put-ends {line = line} {words = words} {line′ = line′} {at = at} h p = recor
   whole = ap (λ (k : ℕ). take k line′) (p .ends) ∙ ap (take (at + length words)) (p .stored) ∙ take-put line at words h;
 }
 
--- ---- the code's side
-
+-- what is left of them to store, one byte further
 pub left-on : (words : List ℕ) (k : ℕ) → k < length words → drop k words ≡ getD words k 0 ∷ drop (k + 1) words
 left-on words k h = rw (add-one k, drop-cons words k 0 h)
