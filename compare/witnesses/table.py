@@ -743,22 +743,31 @@ TABLE = {
             "Finished, spent 1, d 3, idx 1023, 3 at [0, 1, 2], text 1 2 2 3",
         ),
     },
-    "run_calls": {
+    "run_refuse": {
         "a_depth_of_65_is_run": (k11(depth=65), "refused for its Limits, no word changed", K11_ANSWER),
-        "a_long_book_is_refused_before_the_limits": (
-            k11(book=[0] * 4097, depth=65), "refused for its Limits, no word changed", "refused for its Book, no word changed",
-        ),
-        "a_lost_match_is_run": (k11(answer="Lost({})"), "refused for its Match, no word changed", K11_ANSWER),
         "a_match_may_begin_after_the_cursor": (
             k11(records=[(0, 0)], places=[1022, 1023]),
             "refused for its Match, no word changed",
             "Finished, spent 1, d 4, idx 1024, 3 at [1, 2, 3], text 1 2 2 3",
         ),
-        "a_run_looks_at_the_cursor_before_the_shape": (
-            k11(records=[1], idx=1024), "refused for its Shape, no word changed", "refused for its Cursor, no word changed",
+        "a_run_looks_at_the_limits_before_the_cursor": (
+            k11(idx=1024, depth=65), "refused for its Cursor, no word changed", "refused for its Limits, no word changed",
+        ),
+        "a_run_looks_at_the_limits_before_the_shape": (
+            k11(records=[1], depth=65), "refused for its Shape, no word changed", "refused for its Limits, no word changed",
         ),
         "a_run_takes_odd_mark_sets": (k11(sets=[0]), "refused for its Shape, no word changed", K11_ANSWER),
         "an_allowance_of_2147483648_is_run": (k11(allowance=2147483648), "refused for its Limits, no word changed", K11_ANSWER),
+        "odd_records_are_run": (k11(records=[1, 0, 1]), "refused for its Shape, no word changed", K11_ANSWER),
+        "seventeen_records_are_run": (
+            k11(records=[(1, 0)] + [(9, 0)] * 16), "refused for its Shape, no word changed", K11_ANSWER,
+        ),
+    },
+    "run_calls": {
+        "a_long_book_is_refused_before_the_limits": (
+            k11(book=[0] * 4097, depth=65), "refused for its Limits, no word changed", "refused for its Book, no word changed",
+        ),
+        "a_lost_match_is_run": (k11(answer="Lost({})"), "refused for its Match, no word changed", K11_ANSWER),
         "an_unreadable_book_is_a_bad_match": (
             k11(book=[0]), "refused for its Book, no word changed", "refused for its Match, no word changed",
         ),
@@ -766,10 +775,6 @@ TABLE = {
             k11(),
             K11_ANSWER,
             f"Finished, spent 1, d 4, idx 1024, 4 at [0, 1, 2, 3], text {' '.join(['[0, 0, 0, 0]'] * 4)}, cells left",
-        ),
-        "odd_records_are_run": (k11(records=[1, 0, 1]), "refused for its Shape, no word changed", K11_ANSWER),
-        "seventeen_records_are_run": (
-            k11(records=[(1, 0)] + [(9, 0)] * 16), "refused for its Shape, no word changed", K11_ANSWER,
         ),
         "without_allowance_the_book_is_not_read": (
             k11(book=[0], count=0, allowance=0), "refused for its Book, no word changed", "refused for its Match, no word changed",

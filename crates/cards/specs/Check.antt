@@ -22,7 +22,8 @@ use Rattle.run.specs.Repair.{following, withGain, withLoss, grownBy, shrunkBy, 
 use Rattle.run.specs.Run.{triedBy, recordsBy, closed, chainRun}
 use Rattle.run.specs.Chain.{chainMatch}
 use Rattle.run.specs.Deeds.{deedBy}
-use Rattle.run_calls.specs.Calls.{checkedFirst, checkedAll, risesTo}
+use Rattle.run_refuse.specs.Refuse.{checkedFirst, risesTo}
+use Rattle.run_calls.specs.Calls.{checkedAll}
 use Rattle.cards.specs.Card.{Card}
 use Rattle.cards.specs.Sums.{masksOf, bitsBelow}
 use Rattle.cards.specs.Cards.{cards}

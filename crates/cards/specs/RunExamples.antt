@@ -16,8 +16,9 @@ use Rattle.run.specs.declared.Given.{Given}
 use Rattle.run.specs.Numbers.{endingNumber, runRefusalNumber}
 use Rattle.run.specs.Run.{Stage, runOn}
 use Rattle.run.specs.Deeds.{ruled}
-use Rattle.run_calls.specs.declared.Checked.{Checked}
-use Rattle.run_calls.specs.Calls.{then, checkedBook, checkedMatch}
+use Rattle.run_refuse.specs.declared.Checked.{Checked}
+use Rattle.run_refuse.specs.Refuse.{checkedMatch}
+use Rattle.run_calls.specs.Calls.{then, checkedBook}
 use Rattle.cards.specs.Card.{Card}
 
 -- ---- what is handed in: a text with the cursor at its first glyph, a match that counts from there, records, a book, allowance and depth

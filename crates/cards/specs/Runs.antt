@@ -10,7 +10,7 @@ use Rattle.matching.specs.declared.InputAnswer.{InputAnswer}
 use Rattle.matching.specs.declared.InputMatch.{InputMatch}
 use Rattle.matching.specs.Answers.{slotted}
 use Rattle.run.specs.Run.{Stage}
-use Rattle.run_calls.specs.declared.Checked.{Checked}
+use Rattle.run_refuse.specs.declared.Checked.{Checked}
 use Rattle.run.specs.Numbers.{endingNumber, runRefusalNumber}
 use Rattle.run_calls.specs.Calls.{Handed, checkedAll, runSays}
 use Rattle.cards.specs.Card.{Card}

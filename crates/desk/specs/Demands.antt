@@ -15,7 +15,7 @@ use Rattle.book.specs.Encode.{Narrow}
 use Rattle.run.specs.declared.RunEnding.{RunEnding}
 use Rattle.run.specs.Numbers.{runNumber, runRefusalNumber}
 use Rattle.run_calls.specs.declared.RunAnswer.{RunAnswer}
-use Rattle.run_calls.specs.declared.Checked.{Checked}
+use Rattle.run_refuse.specs.declared.Checked.{Checked}
 use Rattle.run_calls.specs.Calls.{Handed, checkedAll, SaidBy, Said, runSays, runReply}
 use Rattle.run_calls.specs.Lines.{Limited, Beyond}
 use Rattle.run_calls.specs.Handed.{SameText, Left, placeLeft, Called, leftNumber, Ends, runLines, Acceptable}

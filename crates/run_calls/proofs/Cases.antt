@@ -10,8 +10,8 @@ use types.Run.{OneOf}
 use Rattle.matching.specs.declared.InputAnswer.{InputAnswer}
 use Rattle.matching.proofs.InputAnswer.{the-type}
 use Rattle.run.specs.declared.RunRefusal.the-variants.{Match}
-use Rattle.run_calls.specs.declared.Checked.{Checked}
-use Rattle.run_calls.specs.Calls.{checkedPlaces}
+use Rattle.run_refuse.specs.declared.Checked.{Checked}
+use Rattle.run_refuse.specs.Refuse.{checkedPlaces}
 
 pub other : (a : InputAnswer) (idx count : ℕ) (places : List ℕ) → OneOf (1 ∷ (2 ∷ (3 ∷ []))) (tagOf the-type a)
     → checkedPlaces idx a count places ≡ Checked.Refused Match

@@ -1,105 +1,47 @@
 -- Laws of the run's refusals, of the match that is handed in, and of what a run leaves.
-use mathlib.Core.Path.{_≡_, refl, sym, ap, ap₂, subst, _∙_}
+use mathlib.Core.Path.{_≡_, refl, sym, ap, subst, _∙_}
 use mathlib.Core.Bool.{Bool, true, false, cond, not, _&&_, _||_}
 use mathlib.Core.List.{List, [], _∷_, map}
-use Prim.Native.Nat.{ℕ, zero, suc, _+_, _-_, _*_, _%_, _≤_, _<_}
-use native.Mathlib.Numerals.{add-one}
+use Prim.Native.Nat.{ℕ, zero, suc, _+_, _-_, _≤_, _<_}
 use native.Mathlib.Omega.{arith}
-use borrow.Author.Tests.{le-leb, lt-leb, lt-ltb, le-ltb, eq-eqb, ne-eqb, leb-true, ltb-true, ltb-false, eqb-true}
+use borrow.Author.Tests.{eq-eqb, leb-true, ltb-true, ltb-false, eqb-true}
 use lib.Dec.{eqb, leb, ltb}
-use lib.ListN.{length, getD, take, drop, length-map, drop-of-length-le}
-use lib.Seq.{drop-cons, length-take-le, getD-take, take-suc}
-use Rattle.bits.specs.Laws.{and-left, and-right, neither-left, neither-right}
+use lib.ListN.{length, getD, take, length-map}
+use lib.Seq.{length-take-le}
+use Rattle.bits.specs.Laws.{and-left, and-right, neither-left}
 use Rattle.glyph.specs.Glyph.{limit}
 use Rattle.glyph.specs.Sets.{oddSets}
 use Rattle.text.specs.declared.Place.{Place}
-use Rattle.text.specs.Text.{Text, textOf, Fits, Holds, Clear, unfit, pastEnd}
+use Rattle.text.specs.Text.{textOf, Fits, Holds, Clear, unfit, pastEnd}
 use Rattle.text.specs.Changes.{fit-exactly}
 use Rattle.text.specs.Laws.{sizes}
 use Rattle.matching.specs.declared.InputAnswer.{InputAnswer}
-use Rattle.matching.specs.declared.InputMatch.{InputMatch}
 use Rattle.matching.specs.Take.{slots}
-use Rattle.matching.specs.Answers.{slotted, matchEnd}
+use Rattle.matching.specs.Answers.{matchEnd}
 use Rattle.book.specs.declared.Index.{Index}
-use Rattle.book.specs.Book.{Reading, Reads, Unreadable, readBook, isRead, recordsOf, lookupsOf, lookupsBy}
-use Rattle.book.specs.Places.{indexOf, indexed, noIndex}
+use Rattle.book.specs.Book.{Reading, Reads, Unreadable, readBook, isRead, lookupsBy}
+use Rattle.book.specs.Places.{indexOf}
 use Rattle.book.specs.Starts.{index-reads}
 use Rattle.run.specs.Repair.{Level, Rises, Sound}
 use Rattle.run.specs.Repair as rises
 use Rattle.run.specs.Rises.{rises-wider}
 use Rattle.run.specs.Run.{Run, Stage, opened, fromDone, movedLevel, mostAllowance, mostDepth}
 use Rattle.run_positions.specs.declared.Slots.{Slots}
-use Rattle.run_positions.specs.Slots.{levelOf, shown, Neat}
-use Rattle.run_positions.specs.Laws.{level-shown, shown-neat}
+use Rattle.run_positions.specs.Slots.{levelOf, shown}
+use Rattle.run_positions.specs.Laws.{level-shown}
 use Rattle.run.specs.declared.RunRefusal.{RunRefusal}
 use Rattle.run.specs.declared.RunRefusal.the-variants.{Shape, Cursor, Limits, Book, Match}
 use Rattle.run.specs.declared.RunEnding.{RunEnding}
 use Rattle.run_calls.specs.declared.RunAnswer.{RunAnswer}
-use Rattle.run_calls.specs.declared.Checked.{Checked}
+use Rattle.run_refuse.specs.declared.Checked.{Checked}
 use Rattle.run_cycle.specs.declared.Closed.{Closed}
-use Rattle.run_step.specs.State.{Ran}
 use Rattle.run_cycle.specs.Levels.{Indexed, Chained}
-use Rattle.run_calls.specs.Calls.{Handed, badRecords, checkedFirst, checkedPlaces, checkedMatch, checkedBook, checkedAll}
-use Rattle.run_calls.specs.Calls.{then, risesTo, goodPlaces, refusedBy, RunLeaves, SaidBy}
+use Rattle.run_refuse.specs.Refuse.{badRecords, checkedFirst, checkedPlaces, checkedMatch}
+use Rattle.run_calls.specs.Calls.{Handed, checkedAll}
+use Rattle.run_refuse.specs.Refuse.{risesTo, goodPlaces}
+use Rattle.run_calls.specs.Calls.{refusedBy, RunLeaves, SaidBy}
 
--- ---- places that rise, one a turn
-
-module _ (from end count : ℕ) (places : List ℕ) (all : length places ≡ 64) (few : count ≤ 64) where
-  abbrev L : List ℕ
-  L = take count places
-
-  -- the whole is what is left from here
-  abbrev pub LeftFrom : ℕ → ℕ → Type 0
-  LeftFrom low i = risesTo from end (take count places) ≡ risesTo low end (drop i (take count places))
-
-  here : (low i : ℕ) → i < count → LeftFrom low i
-      → risesTo from end (take count places)
-      ≡ (leb low (getD places i 0) && (ltb (getD places i 0) end && risesTo (getD places i 0 + 1) end (drop (i + 1) (take count places))))
-  unfolding risesTo
-  here low i h e =
-      let n : length L ≡ count = length-take-le count places (omega arith) in
-      e ∙ ap (risesTo low end) (drop-cons L i 0 (omega arith))
-      ∙ ap₂ (λ (p : ℕ) (k : ℕ). leb low p && (ltb p end && risesTo (p + 1) end (drop k L))) (getD-take count places i 0 h) (sym (add-one i))
-
-  pub rise-low : (low i p : ℕ) → i < count → LeftFrom low i → p ≡ getD places i 0 → p < low → false ≡ risesTo from end (take count places)
-  rise-low low i p h e q l = sym (here low i h e ∙ rw (← q, lt-leb low p l))
-
-  pub rise-past : (low i p : ℕ) → i < count → LeftFrom low i → p ≡ getD places i 0 → low ≤ p → end ≤ p → false ≡ risesTo from end (take count places)
-  rise-past low i p h e q l m = sym (here low i h e ∙ rw (← q, le-leb low p l, le-ltb p end m))
-
-  pub rise-on : (low i p : ℕ) → i < count → LeftFrom low i → p ≡ getD places i 0 → low ≤ p → p < end → LeftFrom (p + 1) (i + 1)
-  rise-on low i p h e q l m = here low i h e ∙ rw (← q, le-leb low p l, lt-ltb p end m)
-
-  pub rise-end : (low i : ℕ) → count ≤ i → LeftFrom low i → true ≡ risesTo from end (take count places)
-  unfolding risesTo
-  rise-end low i h e =
-      let n : length L ≡ count = length-take-le count places (omega arith) in
-      sym (e ∙ ap (risesTo low end) (drop-of-length-le L {i = i} (omega arith)))
-
-pub rise-start : (from end : ℕ) (L : List ℕ) → risesTo from end L ≡ risesTo from end (drop 0 L)
-rise-start from end [] = refl
-rise-start from end (p ∷ L) = refl
-
--- ---- whether places can be a level's
-
-module _ (idx end count : ℕ) (places : List ℕ) where
-  pub places-none : count ≡ 0 → false ≡ goodPlaces idx end count places
-  places-none e = rw (eq-eqb count 0 e)
-
-  module _ (some : count ≡ 0 → ⊥) where
-    pub places-many : slots < count → false ≡ goodPlaces idx end count places
-    places-many h = rw (ne-eqb count 0 some, lt-leb count slots h)
-
-    module _ (few : count ≤ slots) where
-      pub places-long : limit < end → false ≡ goodPlaces idx end count places
-      places-long h = rw (ne-eqb count 0 some, le-leb count slots few, lt-leb end limit h)
-
-      module _ (short : end ≤ limit) where
-        pub places-first : (p : ℕ) → p ≡ getD places 0 0 → (p ≡ idx → ⊥) → false ≡ goodPlaces idx end count places
-        places-first p e h = rw (ne-eqb count 0 some, le-leb count slots few, le-leb end limit short, ← e, ne-eqb p idx h)
-
-        pub places-rise : (p : ℕ) → p ≡ getD places 0 0 → p ≡ idx → risesTo idx end (take count places) ≡ goodPlaces idx end count places
-        places-rise p e h = rw (ne-eqb count 0 some, le-leb count slots few, le-leb end limit short, ← e, eq-eqb p idx h)
+-- ---- places that are good
 
 -- rising places, moved to the text, are a level's positions
 pub moved-rise : (low end : ℕ) (ps : List ℕ) (idx d lo : ℕ) → idx ≤ low → lo ≡ d + (low - idx) → risesTo low end ps ≡ true

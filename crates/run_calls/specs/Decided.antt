@@ -7,7 +7,7 @@ use Rattle.text.specs.declared.Place.{Place}
 use Rattle.text.specs.Decided.{decided}
 use Rattle.run.specs.Run.{Stage}
 use Rattle.run_calls.specs.declared.RunAnswer.{RunAnswer}
-use Rattle.run_calls.specs.declared.Checked.{Checked}
+use Rattle.run_refuse.specs.declared.Checked.{Checked}
 use Rattle.run_calls.specs.Calls.{RunLeaves, SaidBy, refusedBy}
 
 -- the same answer and the same rows

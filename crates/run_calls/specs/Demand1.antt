@@ -21,7 +21,7 @@ use Rattle.run.specs.Met.{Met}
 use Rattle.run.specs.Promises.{short-exactly}
 use Rattle.run.specs.Stops.{MetDepth, deep-exactly}
 use Rattle.run.specs.Full.{MetLimit, full-exactly}
-use Rattle.run_calls.specs.declared.Checked.{Checked}
+use Rattle.run_refuse.specs.declared.Checked.{Checked}
 use Rattle.run.specs.Numbers.{endingNumber}
 use Rattle.run_calls.specs.Calls.{SaidBy, Handed, checkedAll, runSays}
 use Rattle.run_calls.specs.Lines.{placesOf}

@@ -17,7 +17,7 @@ use Rattle.run.specs.declared.RunRefusal.{RunRefusal}
 use Rattle.run.specs.declared.RunRefusal.the-variants.{Shape, Cursor, Limits, Book, Match}
 use Rattle.run.specs.declared.RunEnding.{RunEnding}
 use Rattle.run_calls.specs.declared.RunAnswer.{RunAnswer}
-use Rattle.run_calls.specs.declared.Checked.{Checked}
+use Rattle.run_refuse.specs.declared.Checked.{Checked}
 use Rattle.run.specs.Numbers.{endingNumber, runRefusalNumber}
 use Rattle.run_calls.specs.Calls.{SaidBy, RunLeaves, refusedBy, checkedNumber, runReply}
 use Rattle.run_calls.specs.Handed.{Ends}

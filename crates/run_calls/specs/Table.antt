@@ -25,9 +25,10 @@ use Rattle.book.specs.Book.{mostRecords, Reading, Reads, Unreadable, readBook, 
 use Rattle.book.specs.Encode.{Narrow}
 use Rattle.book.specs.Only.{reads-exactly}
 use Rattle.run.specs.declared.RunRefusal.the-variants.{Shape, Cursor, Limits, Book, Match}
-use Rattle.run_calls.specs.declared.Checked.{Checked}
+use Rattle.run_refuse.specs.declared.Checked.{Checked}
 use Rattle.run.specs.Numbers.{runRefusalNumber}
-use Rattle.run_calls.specs.Calls.{Handed, badRecords, checkedFirst, checkedPlaces, checkedMatch, checkedAll, then, risesTo, goodPlaces}
+use Rattle.run_refuse.specs.Refuse.{badRecords, checkedFirst, checkedPlaces, checkedMatch, risesTo, goodPlaces}
+use Rattle.run_calls.specs.Calls.{Handed, checkedAll, then}
 use Rattle.run_calls.specs.Calls.{checkedNumber, SaidBy, RunLeaves, runSays}
 use Rattle.run_calls.specs.Lines.{RunShaped, CursorInside, Limited, Legible, placesOf, Usable}
 use Rattle.run_calls.specs.Handed.{ShapedOf, runLines, Acceptable, Left, Called}

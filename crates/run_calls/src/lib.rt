@@ -6,10 +6,11 @@ use run::Given;
 use run::RunEnding;
 use run::RunRefusal;
 use run_positions::Slots;
+use run_refuse::Checked;
 use text::Place;
 ghost use mathlib.Core.Path.{_≡_};
 ghost use Prim.Native.Nat.{_≤_, _<_};
-ghost use lib.ListN.{length, take};
+ghost use lib.ListN.{length};
 ghost use Rattle.glyph.specs.Glyph.{limit};
 ghost use Rattle.text.specs.Text.{textOf, Fits};
 ghost use Rattle.book.specs.Book.{recordsOf, lookupsOf};
@@ -17,14 +18,9 @@ ghost use Rattle.run.specs.Run.{begun, chainRun, mostAllowance};
 ghost use Rattle.run.specs.Deeds.{ruled};
 ghost use Rattle.run_positions.specs.Slots.{levelOf, Neat};
 ghost use Rattle.run_cycle.specs.Levels.{Indexed};
-ghost use Rattle.run_calls.specs.Calls.{badRecords, checkedFirst, checkedMatch, risesTo, goodPlaces};
+ghost use Rattle.run_refuse.specs.Refuse.{checkedMatch};
 ghost use Rattle.run_calls.specs.Calls.{refusedBy, RunLeaves, runSays, SaidBy, Said};
 ghost use Rattle.run.specs.Repair.{Sound};
-
-// Allowance and depth of a run, at most.
-pub const MOST_ALLOWANCE: u32 = 2147483647;
-
-pub const MAX_NESTING_LEVEL: usize = 64;
 
 // How the run ended, the lookups tried, where the text is parted, and the first level's positions; all 0 where it was refused.
 pub struct RunAnswer {
@@ -34,11 +30,6 @@ pub struct RunAnswer {
     pub idx: usize,
     pub count: usize,
     pub positions: [u16; 64],
-}
-
-pub enum Checked {
-    Accepted,
-    Refused(RunRefusal),
 }
 
 // A run of records over a text: `done` holds its first d glyphs, `coming` ends with the others, from glyph idx on. The match handed in counts places
@@ -68,7 +59,7 @@ pub fn run(
     }) allowance depth (now (done .exit)) (now (coming .exit)) r ⌝ }
 {
     let place = Place { d, idx };
-    match check(done, coming, place, sets, records, allowance, depth) {
+    match run_refuse::check(done, coming, place, sets, records, allowance, depth) {
         Checked::Refused(why) => return refuse(why),
         Checked::Accepted => {}
     }
@@ -93,37 +84,6 @@ pub fn run(
         allowance,
         depth,
     )
-}
-
-// Refusals 1, 2 and 12.
-fn check(
-    done: &[u32],
-    coming: &[u32],
-    place: Place,
-    sets: &[u16],
-    records: &[u16],
-    allowance: u32,
-    depth: usize,
-) -> Checked
-    ensures { λ r. ⌜ r ≡ checkedFirst (now (done .entry)) (now (coming .entry)) place (now (sets .entry)) (now (records .entry)) allowance depth ⌝ }
-{
-    if text::is_unfit(done, coming, place) | (glyph::is_odd(sets) | is_bad_list(records)) {
-        return Checked::Refused(RunRefusal::Shape);
-    }
-    if text::is_past_end(place) {
-        return Checked::Refused(RunRefusal::Cursor);
-    }
-    if (MOST_ALLOWANCE < allowance) | (MAX_NESTING_LEVEL < depth) {
-        return Checked::Refused(RunRefusal::Limits);
-    }
-    Checked::Accepted
-}
-
-// Records that aren't pairs, or too many.
-fn is_bad_list(records: &[u16]) -> bool
-    ensures { λ r. ⌜ r ≡ badRecords (now (records .entry)) ⌝ }
-{
-    (records.len() % 2 != 0) | (2 * book::RECORDS < records.len())
 }
 
 // A refused run: the number alone.
@@ -175,7 +135,7 @@ fn apply(
     let places = matched.positions;
     let d = place.d;
     let idx = place.idx;
-    if !is_level(&places, matched.count, end, idx) {
+    if !run_refuse::is_level(&places, matched.count, end, idx) {
         return refuse(RunRefusal::Match);
     }
     let m = run_positions::open(&places, matched.count, end, idx, d);
@@ -193,53 +153,6 @@ fn apply(
         allowance,
         depth,
     )
-}
-
-// Whether places can be a level's: some and at most 64, from the cursor on, rising, below an end that is in the row.
-fn is_level(places: &[u16; 64], count: usize, end: usize, idx: usize) -> bool
-    requires { ⌜ length (now places) ≡ 64 ⌝ }
-    ensures { λ r. ⌜ r ≡ goodPlaces idx end count (now (places .entry)) ⌝ }
-{
-    if count == 0 {
-        return false;
-    }
-    if run_positions::SLOTS < count {
-        return false;
-    }
-    if glyph::LIMIT < end {
-        return false;
-    }
-    if wide(places[0]) != idx {
-        return false;
-    }
-    is_rising(places, count, end, idx)
-}
-
-// Whether the first `count` places rise from `from` on, all below the end.
-fn is_rising(places: &[u16; 64], count: usize, end: usize, from: usize) -> bool
-    requires { ⌜ (length (now places) ≡ 64) × (count ≤ 64) ⌝ }
-    ensures { λ r. ⌜ r ≡ risesTo from end (take count (now (places .entry))) ⌝ }
-{
-    let mut low = from;
-    let mut i = 0;
-    while i < count {
-        let p = wide(places[i]);
-        if p < low {
-            return false;
-        }
-        if end <= p {
-            return false;
-        }
-        low = p + 1;
-        i += 1;
-    }
-    true
-}
-
-fn wide(x: u16) -> usize
-    ensures { λ r. ⌜ r ≡ x ⌝ }
-{
-    x as usize
 }
 
 // The first level and all below it; then the cells in neither part are cleared, once.

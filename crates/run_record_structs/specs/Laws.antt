@@ -17,8 +17,9 @@ use Rattle.run.specs.declared.Given.{Given}
 use Rattle.run.specs.Run.{Stage}
 use Rattle.run.specs.declared.RunRefusal.the-variants.{Shape}
 use Rattle.run_calls.specs.declared.RunAnswer.{RunAnswer}
-use Rattle.run_calls.specs.declared.Checked.{Checked}
-use Rattle.run_calls.specs.Calls.{Handed, badRecords, checkedFirst, checkedAll, SaidBy, Said}
+use Rattle.run_refuse.specs.declared.Checked.{Checked}
+use Rattle.run_refuse.specs.Refuse.{badRecords, checkedFirst}
+use Rattle.run_calls.specs.Calls.{Handed, checkedAll, SaidBy, Said}
 use Rattle.run_record_structs.specs.declared.Record.{Record}
 use Rattle.run_record_structs.specs.declared.Pairs.{Pairs}
 use Rattle.run_record_structs.specs.Records.{recordWords, recordMeant}

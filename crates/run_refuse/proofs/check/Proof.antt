@@ -1,8 +1,8 @@
 -- The refusals in their order are the definition's. Assumes nothing.
-use Rattle.run_calls.specs.Calls.{checkedFirst}
+use Rattle.run_refuse.specs.Refuse.{checkedFirst}
 use borrow.Author.Needs.{needs}
-use Rattle.run_calls.proofs.check.Statement.{statement}
-use Rattle.run_calls.proofs.check.Tie as tie
+use Rattle.run_refuse.proofs.check.Statement.{statement}
+use Rattle.run_refuse.proofs.check.Tie as tie
 
 is-unfit-requires : tie.Need-is-unfit-requires
 is-unfit-requires c κs = search needs

@@ -4,10 +4,10 @@ use mathlib.Core.Path.{_≡_}
 use native.Mathlib.Omega.{arith}
 use borrow.Author.Needs.{needs}
 use lib.ListN.{take, drop}
-use Rattle.run_calls.specs.Calls.{risesTo}
-use Rattle.run_calls.specs.CallLaws.{rise-low, rise-past, rise-on, rise-end, rise-start}
-use Rattle.run_calls.proofs.is_rising.Statement.{statement}
-use Rattle.run_calls.proofs.is_rising.Tie as tie
+use Rattle.run_refuse.specs.Refuse.{risesTo}
+use Rattle.run_refuse.specs.Turns.{rise-low, rise-past, rise-on, rise-end, rise-start}
+use Rattle.run_refuse.proofs.is_rising.Statement.{statement}
+use Rattle.run_refuse.proofs.is_rising.Tie as tie
 
 abbrev Inv-loop : tie.InvT-loop
 Inv-loop places count end from low₀ i₀ low i = (i ≤ count) × (risesTo from end (take count places) ≡ risesTo low end (drop i (take count places)))

@@ -1,10 +1,10 @@
 -- The tests in their order are the definition's; the code's row limit is too. Assumes nothing.
 use mathlib.Core.Path.{_∙_}
 use Rattle.glyph.specs.Glyph.{limit}
-use Rattle.run_calls.specs.CallLaws.{places-none, places-many, places-long, places-first, places-rise}
+use Rattle.run_refuse.specs.Turns.{places-none, places-many, places-long, places-first, places-rise}
 use borrow.Author.Needs.{needs}
-use Rattle.run_calls.proofs.is_level.Statement.{statement}
-use Rattle.run_calls.proofs.is_level.Tie as tie
+use Rattle.run_refuse.proofs.is_level.Statement.{statement}
+use Rattle.run_refuse.proofs.is_level.Tie as tie
 
 returns : tie.Need-returns
 returns c = let a = c .before .args in places-none (a .idx) (a .end) (a .count) (a .places .now) (c .if1 .taken)
