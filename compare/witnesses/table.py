@@ -511,25 +511,27 @@ TABLE = {
         "lookahead_starts_one_late": (match_lookahead([5, 7], 1), "Matched(2)", "Lost(2)"),
         "the_backward_row_of_gpos_is_done": (match_backtrack([7, 5], cursor=1, gpos=True), "Matched(0)", "Lost(0)"),
     },
-    "matching_calls": {
+    "matching_refuse": {
         "a_start_of_1_is_refused_by_6": (match_lookahead([5, 7], 1), "Matched(2)", "Refused(Start)"),
+        "context_refuses_64_values": (match_backtrack([5], [7] * 64), "Lost(0)", "Refused(Values)"),
+        "everything_is_refused": (match_input([5, 7]), K1_ANSWER, "Refused(Shape), 0 at []"),
+        "input_takes_64_values": (match_input([5], [7] * 64), "Refused(Values), 0 at []", "Lost(1), 0 at []"),
+        "the_cursor_is_tested_before_the_shape": (
+            match_input([5], length=2, cursor=2), "Refused(Shape), 0 at []", "Refused(Cursor), 0 at []",
+        ),
+    },
+    "matching_calls": {
         "backtrack_takes_len_for_d": (match_backtrack([5, 6], done=[7, 8], d=1), "Matched(0)", "Lost(0)"),
         "backtrack_takes_syllable_0_for_the_cursors": (
             match_backtrack([glyph(5, syllable=1)], done=[glyph(7, syllable=2)], syllables=True), "Lost(0)", "Matched(0)",
         ),
-        "context_refuses_64_values": (match_backtrack([5], [7] * 64), "Lost(0)", "Refused(Values)"),
-        "everything_is_refused": (match_input([5, 7]), K1_ANSWER, "Refused(Shape), 0 at []"),
         "input_goes_past_len": (match_input([5, 7], length=1), "Lost(1), 0 at []", K1_ANSWER),
-        "input_takes_64_values": (match_input([5], [7] * 64), "Refused(Values), 0 at []", "Lost(1), 0 at []"),
         "lookahead_goes_past_len": (match_lookahead([5, 7], 1, length=1), "Lost(1)", "Matched(2)"),
         "lookahead_takes_syllable_0_for_the_cursors": (
             match_lookahead([glyph(5, syllable=1), glyph(7, syllable=2)], 1, syllables=True), "Lost(2)", "Matched(2)",
         ),
         "slots_stay_filled_after_a_refusal": (
             match_input([5], cursor=1), "Refused(Cursor), 0 at []", "Refused(Cursor), 0 at [] and an unused slot filled",
-        ),
-        "the_cursor_is_tested_before_the_shape": (
-            match_input([5], length=2, cursor=2), "Refused(Shape), 0 at []", "Refused(Cursor), 0 at []",
         ),
         "the_search_for_a_base_goes_past_d": (
             match_input([glyph(5, lig=1, comp=1), glyph(7, lig=1, comp=2)], done=[mark(2, lig=1)], d=0, props=8), "Ligature, 0 at []", K1_ANSWER,

@@ -14,7 +14,8 @@ use Rattle.matching.specs.Take.{takes, reached}
 use Rattle.ligature.specs.Ligature.{mayJoin, baseBefore, baseSkips}
 use Rattle.matching.specs.Matchers.{inputBy, inputOn, aheadOn, backOn}
 use Rattle.matching.specs.Answers.{ligated}
-use Rattle.matching_calls.specs.Calls.{badText, inputFit, inputOf}
+use Rattle.matching_refuse.specs.Fit.{badText, inputFit}
+use Rattle.matching_calls.specs.Calls.{inputOf}
 use Rattle.glyph.specs.Write.{withId}
 use Rattle.book.specs.Book.{recordsOf, counted, bodyOf, firstOf, readLookups, readBook, lookupAt}
 use Rattle.book.specs.Encode.{pairsOf, encode, encodeAll}

@@ -17,13 +17,14 @@ use Rattle.verdict.specs.Verdict.{Asked}
 use Rattle.matching.specs.declared.Terms.{Terms}
 use Rattle.matching.specs.declared.Refusal.{Refusal}
 use Rattle.matching.specs.declared.Refusal.the-variants.{Shape, Cursor, Values, Start}
-use Rattle.matching_calls.specs.declared.Fit.{Fit}
+use Rattle.matching_refuse.specs.declared.Fit.{Fit}
 use Rattle.matching.specs.declared.InputMatch.{InputMatch}
 use Rattle.matching.specs.declared.ContextMatch.{ContextMatch}
 use Rattle.matching.specs.Take.{Way, ahead, behind, Outcome, taken, lost, unlike}
 use Rattle.matching.specs.Matchers.{inputOn, aheadOn, backOn, backwardGlyphs}
 use Rattle.matching.specs.Answers.{slotted, inputTold, contextTold, refusalNumber, inputReply, contextReply}
-use Rattle.matching_calls.specs.Calls.{inputFit, aheadFit, backFit, fitNumber, inputUnless, contextUnless, inputOf, aheadOf, backOf}
+use Rattle.matching_refuse.specs.Fit.{inputFit, aheadFit, backFit, fitNumber}
+use Rattle.matching_calls.specs.Calls.{inputUnless, contextUnless, inputOf, aheadOf, backOf}
 use Rattle.glyph.specs.Reply.{Reply, replies, numberIn, has-values, apart-by}
 use Rattle.matching_calls.specs.Lines.{inputLines, InputAcceptable, aheadLines, AheadAcceptable, backLines, BackAcceptable}
 use Rattle.matching_calls.specs.Table as table

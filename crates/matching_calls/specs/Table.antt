@@ -17,9 +17,9 @@ use Rattle.glyph.specs.Tests.{both, at-or-past, over, nothing, paired}
 use Rattle.matching.specs.declared.Refusal.the-variants.{Shape, Cursor, Values, Start}
 use Rattle.matching.specs.Take.{slots}
 use Rattle.matching.specs.Answers.{refusalNumber}
-use Rattle.matching_calls.specs.declared.Fit.{Fit}
+use Rattle.matching_refuse.specs.declared.Fit.{Fit}
 use Rattle.matching_calls.specs.Lines.{Shaped, inputLines, InputAcceptable, backLines, BackAcceptable, aheadLines, AheadAcceptable}
-use Rattle.matching_calls.specs.Calls.{badText, inputFit, aheadFit, backFit, fitNumber}
+use Rattle.matching_refuse.specs.Fit.{badText, inputFit, aheadFit, backFit, fitNumber}
 
 module _ (done : List ℕ) (d : ℕ) (coming : List ℕ) (len : ℕ) (sets : List ℕ) where
   shaped : (badText done d coming len sets ≡ false) ↔ Shaped done d coming len sets

@@ -14,8 +14,9 @@ use Rattle.matching.specs.Matchers.{inputOn}
 use Rattle.matching.specs.Answers.{ligated, totalOf, inputTold}
 use Rattle.matching.specs.Demand2Laws.{demand-2}
 use Rattle.matching.specs.Rising.{as-many}
-use Rattle.matching_calls.specs.declared.Fit.{Fit}
-use Rattle.matching_calls.specs.Calls.{inputFit, inputUnless, inputOf}
+use Rattle.matching_refuse.specs.declared.Fit.{Fit}
+use Rattle.matching_refuse.specs.Fit.{inputFit}
+use Rattle.matching_calls.specs.Calls.{inputUnless, inputOf}
 use Rattle.matching_calls.specs.Kept.{input-takes}
 use Rattle.matching_calls.specs.Table.{input-fits}
 

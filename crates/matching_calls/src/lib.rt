@@ -2,24 +2,14 @@
 use matching::ContextMatch;
 use matching::InputAnswer;
 use matching::InputMatch;
-use matching::MAX_CONTEXT_LENGTH;
-use matching::Refusal;
 use matching::Terms;
+use matching_refuse::Fit;
 use verdict::Test;
 ghost use mathlib.Core.Path.{_≡_};
 ghost use mathlib.Core.List.{[]};
-ghost use mathlib.Core.Bool.{cond};
 ghost use Rattle.verdict.specs.Verdict.{valueBy};
-ghost use Rattle.matching.specs.declared.Refusal.the-variants.{Shape, Cursor, Values, Start};
 ghost use Rattle.matching.specs.Answers.{without};
-ghost use Rattle.matching_calls.specs.declared.Fit.{Fit};
-ghost use Rattle.matching_calls.specs.Calls.{badText, inputFit, aheadFit, backFit, inputOf, aheadOf, backOf};
-
-// What the tests before matching say.
-pub enum Fit {
-    Fits,
-    Refused(Refusal),
-}
+ghost use Rattle.matching_calls.specs.Calls.{inputOf, aheadOf, backOf};
 
 // The values against the glyphs after the cursor.
 pub fn match_input(
@@ -36,7 +26,7 @@ pub fn match_input(
     ensures { λ r. ⌜ r ≡ inputOf (now (done .entry)) d (now (coming .entry)) len idx lookup (now (sets .entry)) (valueBy test [])
         (now (values .entry)) ⌝ }
 {
-    match input_fit(done, d, coming, len, idx, sets, values.len()) {
+    match matching_refuse::input_fit(done, d, coming, len, idx, sets, values.len()) {
         Fit::Refused(why) => return refuse(InputAnswer::Refused(why)),
         Fit::Fits => {}
     }
@@ -82,7 +72,7 @@ pub fn match_lookahead(
     ensures { λ r. ⌜ r ≡ aheadOf (now (done .entry)) d (now (coming .entry)) len idx start lookup (now (sets .entry)) (valueBy test [])
         (now (values .entry)) ⌝ }
 {
-    match ahead_fit(done, d, coming, len, idx, start, sets, values.len()) {
+    match matching_refuse::ahead_fit(done, d, coming, len, idx, start, sets, values.len()) {
         Fit::Refused(why) => return ContextMatch::Refused(why),
         Fit::Fits => {}
     }
@@ -116,7 +106,7 @@ pub fn match_backtrack<'a>(
     ensures { λ r. ⌜ r ≡ backOf (now (done .entry)) d (now (coming .entry)) len idx lookup (now (sets .entry)) (valueBy test [])
         (now (values .entry)) ⌝ }
 {
-    match back_fit(done, d, coming, len, idx, sets, values.len()) {
+    match matching_refuse::back_fit(done, d, coming, len, idx, sets, values.len()) {
         Fit::Refused(why) => return ContextMatch::Refused(why),
         Fit::Fits => {}
     }
@@ -127,85 +117,6 @@ pub fn match_backtrack<'a>(
     let cursor = glyph::read(text, idx);
     let none = [0u16; 0];
     matching_context::backtrack(row, cursor.syllable, lookup, sets, test, &none, values)
-}
-
-// ---- what the calls are refused for
-
-// A text whose rows, lengths or mark sets are ill shaped.
-fn is_bad_text(done: &[u32], d: usize, coming: &[u32], len: usize, sets: &[u16]) -> bool
-    ensures { λ r. ⌜ r ≡ badText (now (done .entry)) d (now (coming .entry)) len (now (sets .entry)) ⌝ }
-{
-    glyph::is_ill_shaped(done)
-        | (glyph::count(done) < d)
-        | glyph::is_ill_shaped(coming)
-        | (glyph::count(coming) < len)
-        | glyph::is_odd(sets)
-}
-
-fn input_fit(
-    done: &[u32],
-    d: usize,
-    coming: &[u32],
-    len: usize,
-    idx: usize,
-    sets: &[u16],
-    values: usize,
-) -> Fit
-    ensures { λ r. ⌜ r ≡ inputFit (now (done .entry)) d (now (coming .entry)) len idx (now (sets .entry)) values ⌝ }
-{
-    let bad = is_bad_text(done, d, coming, len, sets);
-    first_line(bad, len <= idx, MAX_CONTEXT_LENGTH <= values, false)
-}
-
-fn ahead_fit(
-    done: &[u32],
-    d: usize,
-    coming: &[u32],
-    len: usize,
-    idx: usize,
-    start: usize,
-    sets: &[u16],
-    values: usize,
-) -> Fit
-    ensures { λ r. ⌜ r ≡ aheadFit (now (done .entry)) d (now (coming .entry)) len idx start (now (sets .entry)) values ⌝ }
-{
-    let bad = is_bad_text(done, d, coming, len, sets) | (len < start);
-    first_line(bad, len <= idx, MAX_CONTEXT_LENGTH < values, start == 0)
-}
-
-fn back_fit(
-    done: &[u32],
-    d: usize,
-    coming: &[u32],
-    len: usize,
-    idx: usize,
-    sets: &[u16],
-    values: usize,
-) -> Fit
-    ensures { λ r. ⌜ r ≡ backFit (now (done .entry)) d (now (coming .entry)) len idx (now (sets .entry)) values ⌝ }
-{
-    let bad = is_bad_text(done, d, coming, len, sets);
-    first_line(bad, len <= idx, MAX_CONTEXT_LENGTH < values, false)
-}
-
-// The first line of 01's table that refuses, in its order: 1, 2, 3, 6.
-fn first_line(bad: bool, past: bool, many: bool, unbegun: bool) -> Fit
-    ensures { λ r. ⌜ r ≡ cond bad (Fit.Refused Shape)
-        (cond past (Fit.Refused Cursor) (cond many (Fit.Refused Values) (cond unbegun (Fit.Refused Start) Fit.Fits))) ⌝ }
-{
-    if bad {
-        return Fit::Refused(Refusal::Shape);
-    }
-    if past {
-        return Fit::Refused(Refusal::Cursor);
-    }
-    if many {
-        return Fit::Refused(Refusal::Values);
-    }
-    if unbegun {
-        return Fit::Refused(Refusal::Start);
-    }
-    Fit::Fits
 }
 
 // An answer that has no positions.

@@ -1,6 +1,6 @@
 -- The tests are the definition's, in its order. Assumes nothing.
-use Rattle.matching_calls.proofs.first_line.Statement.{statement}
-use Rattle.matching_calls.proofs.first_line.Tie as tie
+use Rattle.matching_refuse.proofs.first_line.Statement.{statement}
+use Rattle.matching_refuse.proofs.first_line.Tie as tie
 
 returns : tie.Need-returns
 returns c = rw (c .if1 .taken)

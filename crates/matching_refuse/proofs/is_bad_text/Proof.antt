@@ -1,8 +1,8 @@
 -- The five tests are the definition's. Assumes nothing.
-use Rattle.matching_calls.specs.Calls.{badText}
+use Rattle.matching_refuse.specs.Fit.{badText}
 use borrow.Author.Needs.{needs}
-use Rattle.matching_calls.proofs.is_bad_text.Statement.{statement}
-use Rattle.matching_calls.proofs.is_bad_text.Tie as tie
+use Rattle.matching_refuse.proofs.is_bad_text.Statement.{statement}
+use Rattle.matching_refuse.proofs.is_bad_text.Tie as tie
 
 is-ill-shaped-requires : tie.Need-is-ill-shaped-requires
 is-ill-shaped-requires c κs = search needs
