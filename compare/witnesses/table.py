@@ -706,6 +706,18 @@ TABLE = {
             K11_ANSWER,
             "Short, spent 0, d 3, idx 1024, 3 at [0, 1, 2], text 1 2 3",
         ),
+        "no_allowance_is_answered_as_deep": (
+            k11(allowance=0, depth=0),
+            "Short, spent 0, d 3, idx 1024, 3 at [0, 1, 2], text 1 2 3",
+            "Deep, spent 0, d 1, idx 1022, 3 at [0, 1, 2], text 1 2 3",
+        ),
+        "short_counts_as_finished": (
+            k11(allowance=0),
+            "Short, spent 0, d 3, idx 1024, 3 at [0, 1, 2], text 1 2 3",
+            "Finished, spent 0, d 3, idx 1024, 3 at [0, 1, 2], text 1 2 3",
+        ),
+    },
+    "run_act": {
         "full_writes_all_the_same": (
             run([2] * 1024, K11_BOOK, [(0, 0)], places=[0], end=1),
             "Full, spent 1, d 0, idx 0, 1 at [0], text of 1024 glyphs",
@@ -717,16 +729,6 @@ TABLE = {
             "Finished, spent 1, d 1, idx 1024, 1 at [0], text 1",
         ),
         "kind_2_touches_nothing": (k11(), K11_ANSWER, "Finished, spent 1, d 3, idx 1024, 3 at [0, 1, 2], text 1 2 3"),
-        "no_allowance_is_answered_as_deep": (
-            k11(allowance=0, depth=0),
-            "Short, spent 0, d 3, idx 1024, 3 at [0, 1, 2], text 1 2 3",
-            "Deep, spent 0, d 1, idx 1022, 3 at [0, 1, 2], text 1 2 3",
-        ),
-        "short_counts_as_finished": (
-            k11(allowance=0),
-            "Short, spent 0, d 3, idx 1024, 3 at [0, 1, 2], text 1 2 3",
-            "Finished, spent 0, d 3, idx 1024, 3 at [0, 1, 2], text 1 2 3",
-        ),
     },
     "run_cycle": {
         "a_chain_that_matches_does_nothing": (

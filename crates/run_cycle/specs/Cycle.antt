@@ -28,7 +28,8 @@ use Rattle.run_positions.specs.Laws.{level-shown, shown-neat}
 use Rattle.run_chain_match.specs.declared.Aim.{Aim}
 use Rattle.run_chain_match.specs.Aim.{aimAt, aimedAt}
 use Rattle.run_step.specs.declared.State.{State}
-use Rattle.run_step.specs.State.{runOf, stageOf, actedBy}
+use Rattle.run_step.specs.State.{runOf, stageOf}
+use Rattle.run_act.specs.Acts.{actedBy}
 use Rattle.run_cycle.specs.Levels.{Indexed}
 
 -- ---- the book

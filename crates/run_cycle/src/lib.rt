@@ -100,7 +100,7 @@ fn lookup(
         (runOf (now (done .entry)) (now (coming .entry)) s)) ⌝ }
 {
     if !book::is_chain(e) {
-        return run_step::act(done, coming, book, e, s);
+        return run_act::act(done, coming, book, e, s);
     }
     let place = s.place;
     let aim = run_chain_match::take_aim(done, coming, book, sets, e, place, given);

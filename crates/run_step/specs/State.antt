@@ -7,15 +7,12 @@ use Prim.Native.Nat.{ℕ, zero, suc, _+_, _≤_}
 use lib.Dec.{ltb}
 use lib.ListN.{length, getD}
 use Rattle.text.specs.declared.Place.{Place}
-use Rattle.text.specs.Text.{textOf, movedTo, written, Fits}
-use Rattle.book.specs.declared.Entry.{Entry}
+use Rattle.text.specs.Text.{textOf, movedTo, Fits}
 use Rattle.book.specs.Book.{Record}
-use Rattle.book.specs.Places.{partOf}
 use Rattle.run.specs.declared.Ending.{Ending}
 use Rattle.run.specs.declared.Ending.the-variants.{Finished, Short, Deep}
 use Rattle.run.specs.Repair.{Level, Sound}
-use Rattle.run.specs.Run.{Tally, Run, Stage, madeIn, isOver, changed, inRun, when, isDue, arrived, stopped, spending, mostAllowance}
-use Rattle.run.specs.Deeds.{onId, renamedBy, multipliedBy}
+use Rattle.run.specs.Run.{Tally, Run, Stage, isOver, changed, inRun, when, isDue, arrived, stopped, spending, mostAllowance}
 use Rattle.run_positions.specs.declared.Slots.{Slots}
 use Rattle.run_positions.specs.Slots.{levelOf, shown, Neat}
 use Rattle.run_step.specs.declared.State.{State}
@@ -93,21 +90,6 @@ pub record Prepared (j : Judgement) (done coming : List ℕ) (r : Ready) : Type 
 
 unfoldable pub closedAt : ℕ → Run → Run
 closedAt end x = when (not (isOver (x .tally .ending))) (changed (movedTo end)) x
-
--- ---- a lookup
-
-abbrev pub oneOn : ℕ → ℕ → Run → Run
-oneOn from to x = madeIn (onId from (renamedBy written to) (x .text)) x
-
-abbrev pub manyOn : ℕ → List ℕ → Run → Run
-manyOn from ids x = madeIn (onId from (multipliedBy written ids) (x .text)) x
-
--- kinds 1 and 2
-abbrev pub actedBy : List ℕ → Entry → Run → Run
-actedBy ws (Entry.One props from to) x = oneOn from to x
-actedBy ws (Entry.Many props from ids) x = manyOn from (partOf ws ids) x
-actedBy ws (Entry.Chain props parts) x = x
-actedBy ws Entry.Missing x = x
 
 -- ---- what a level's steps may count on
 

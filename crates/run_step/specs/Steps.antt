@@ -1,37 +1,28 @@
--- Laws of one step of the code: a record judged and reached, a level closed, kinds 1 and 2.
+-- Laws of one step of the code: a record judged and reached, a level closed.
 use mathlib.Core.Path.{_≡_, refl, sym, ap, _∙_}
 use mathlib.Core.Bool.{true, false}
-use mathlib.Core.List.{List, [], _∷_}
-use Prim.Native.Nat.{ℕ, zero, suc, _+_, _-_, _≤_, _<_}
+use mathlib.Core.List.{List}
+use Prim.Native.Nat.{ℕ, zero, suc, _-_, _≤_, _<_}
 use native.Mathlib.Omega.{arith}
-use borrow.Author.Tests.{lt-ltb, le-ltb, eq-eqb, ne-eqb}
-use lib.Dec.{eqb, ltb}
+use borrow.Author.Tests.{lt-ltb, le-ltb}
+use lib.Dec.{ltb}
 use lib.ListN.{length, getD, take}
 use lib.Seq.{getD-take}
-use Rattle.glyph.specs.declared.Glyph.{Glyph}
-use Rattle.glyph.specs.Glyph.{limit, glyphsOf, blank}
 use Rattle.text.specs.declared.Place.{Place}
-use Rattle.text.specs.Text.{textOf, sizeOf, movedTo, replaced, isFull, Fits, Holds}
-use Rattle.text.specs.Changes.{size-is, at-cursor}
-use Rattle.text.specs.Laws.{sizes}
+use Rattle.text.specs.Text.{textOf, sizeOf, movedTo, Fits, Holds}
+use Rattle.text.specs.Changes.{size-is}
 use Rattle.run.specs.declared.Ending.{Ending}
-use Rattle.run.specs.declared.Ending.the-variants.{Short, Deep, Full}
+use Rattle.run.specs.declared.Ending.the-variants.{Short, Deep}
 use Rattle.run.specs.Repair.{Sound}
 use Rattle.run.specs.Kept.{due-shows}
-use Rattle.run.specs.Run.{Stage, isOver, size, changed, endingAs, spending, isDue, arrived, placeOf}
-use Rattle.run.specs.Deeds.{isAt}
+use Rattle.run.specs.Run.{Stage, isOver, changed, endingAs, spending, isDue, arrived, placeOf}
 use Rattle.run_positions.specs.declared.Slots.{Slots}
 use Rattle.run_positions.specs.Slots.{levelOf, Neat}
 use Rattle.run_positions.specs.Laws.{count-is}
 use Rattle.run_step.specs.declared.State.{State}
 use Rattle.run_step.specs.declared.Ready.{Ready}
 use Rattle.run_step.specs.State.{runOf, stageOf, Ran, Able, at, isDueAt, partedAt, endedAs, spentAs}
-use Rattle.run_step.specs.State.{stoppedSlots, judgedAt, judged, readied, Prepared, closedAt, oneOn, manyOn}
-
--- ids of a lookup, and slots, are fewer than a row's glyphs
-pub limit-most : 64 ≤ limit
-unfolding limit
-limit-most = omega arith
+use Rattle.run_step.specs.State.{stoppedSlots, judgedAt, judged, readied, Prepared, closedAt}
 
 -- ---- whether a record is due
 
@@ -158,44 +149,3 @@ module _ (done coming : List ℕ) (s : State) (f : Fits done coming (s .place)) 
   unfolding closedAt
   closed-moves done′ coming′ place o h =
       rw o (record { fits = h .fits; is = λ j. changed (λ t. h .text j) (runOf done coming s) })
-
--- ---- kinds 1 and 2
-
-module _ (done coming : List ℕ) (s : State) (f : Fits done coming (s .place)) (g : Glyph) (is : g ≡ getD (glyphsOf coming) (s .place .idx) blank)
-    (from : ℕ) where
-  -- the glyph that was read is the cursor's
-  cursor-is : isAt from (textOf done coming (s .place)) ≡ eqb (g .id) from
-  cursor-is = ap (λ (x : Glyph). eqb (x .id) from) (at-cursor f ∙ sym is)
-
-  pub inside : s .place .idx < limit → s .place .d < length (textOf done coming (s .place) .glyphs)
-  inside h = let z = sizes done coming (s .place) f in omega arith
-
-  same : Ran done coming s (runOf done coming s)
-  same = record { fits = f; is = refl }
-
-  pub one-off : (to : ℕ) → (g .id ≡ from → ⊥) → Ran done coming s (oneOn from to (runOf done coming s))
-  one-off to n = rw (cursor-is, ne-eqb (g .id) from n) same
-
-  pub one-on : (to : ℕ) (done′ : List ℕ) (place : Place) → g .id ≡ from → Holds done′ coming place
-      (replaced (to ∷ []) (textOf done coming (s .place)))
-      → Ran done′ coming (partedAt place s) (oneOn from to (runOf done coming s))
-  one-on to done′ place e h =
-      rw (cursor-is, eq-eqb (g .id) from e) (record { fits = h .fits; is = λ j. changed (λ t. h .text j) (runOf done coming s) })
-
-  module _ (ids : List ℕ) where
-    pub many-off : (g .id ≡ from → ⊥) → Ran done coming s (manyOn from ids (runOf done coming s))
-    many-off n = rw (cursor-is, ne-eqb (g .id) from n) same
-
-    full-is : isFull (size (runOf done coming s)) (length ids) ≡ isFull (sizeOf (s .place)) (length ids)
-    full-is = ap (λ (n : ℕ). isFull n (length ids)) (size-is f)
-
-    pub many-full : g .id ≡ from → isFull (sizeOf (s .place)) (length ids) ≡ true
-        → Ran done coming (endedAs Full s) (manyOn from ids (runOf done coming s))
-    many-full e o = rw (cursor-is, eq-eqb (g .id) from e, full-is, o) (record { fits = f; is = refl })
-
-    pub many-on : (done′ : List ℕ) (place : Place) → g .id ≡ from → isFull (sizeOf (s .place)) (length ids) ≡ false
-        → Holds done′ coming place (replaced ids (textOf done coming (s .place)))
-        → Ran done′ coming (partedAt place s) (manyOn from ids (runOf done coming s))
-    many-on done′ place e o h =
-        rw (cursor-is, eq-eqb (g .id) from e, full-is, o)
-        (record { fits = h .fits; is = λ j. changed (λ t. h .text j) (runOf done coming s) })

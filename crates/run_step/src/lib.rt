@@ -1,5 +1,4 @@
-// The steps of a run over a text in two rows: a record judged and reached, a level closed, a lookup of kind 1 or 2 at the cursor.
-use book::Entry;
+// The steps of a run over a text in two rows: a record judged and reached, a level closed.
 use run::Ending;
 use run_positions::Slots;
 use text::Place;
@@ -8,10 +7,9 @@ ghost use Prim.Native.Nat.{_+_, _-_, _≤_, _<_};
 ghost use lib.ListN.{length};
 ghost use Rattle.glyph.specs.Glyph.{limit};
 ghost use Rattle.text.specs.Text.{textOf, sizeOf, Fits};
-ghost use Rattle.book.specs.Inside.{EntryInside};
 ghost use Rattle.run_positions.specs.Slots.{levelOf, Neat};
 ghost use Rattle.run_step.specs.State.{runOf, stageOf, Ran, Able, at, isDueAt, begunAt, partedAt, endedAs};
-ghost use Rattle.run_step.specs.State.{spentAs, stoppedAs, judgedAt, readied, Prepared, closedAt, oneOn, manyOn, actedBy};
+ghost use Rattle.run_step.specs.State.{spentAs, stoppedAs, judgedAt, readied, Prepared, closedAt};
 ghost use Rattle.run.specs.Run.{mostAllowance};
 
 // A run under way: where the text is parted, and its tally: the allowance that is left, the lookups tried so far, and how it would end now. States
@@ -67,7 +65,7 @@ pub fn begin(place: Place, allowance: u32) -> State
 }
 
 // The run with its text parted elsewhere.
-fn parted(s: State, place: Place) -> State
+pub fn parted(s: State, place: Place) -> State
     ensures { λ r. ⌜ r ≡ partedAt place s ⌝ }
 {
     let ending = s.ending;
@@ -80,7 +78,7 @@ fn parted(s: State, place: Place) -> State
 }
 
 // The run with another ending.
-fn ended(s: State, ending: Ending) -> State
+pub fn ended(s: State, ending: Ending) -> State
     ensures { λ r. ⌜ r ≡ endedAs ending s ⌝ }
 {
     let place = s.place;
@@ -182,58 +180,4 @@ pub fn finish(done: &mut [u32], coming: &mut [u32], s: State, end: usize) -> Sta
     let here = s.place;
     let place = text::move_to(done, coming, here, end);
     parted(s, place)
-}
-
-// Kind 1 at the cursor.
-fn act_one(done: &mut [u32], coming: &[u32], s: State, from: u32, to: u32) -> State
-    requires { ⌜ Fits (now done) (now coming) (s .place) × (s .place .idx < limit) ⌝ }
-    ensures { λ r. ⌜ Ran (now (done .exit)) (now (coming .entry)) r (oneOn from to (runOf (now (done .entry)) (now (coming .entry)) s)) ⌝ }
-{
-    let here = s.place;
-    let g = glyph::read(coming, here.idx);
-    if g.id != from {
-        return s;
-    }
-    let place = text::replace_one(done, coming, here, to);
-    parted(s, place)
-}
-
-// Kind 2 at the cursor. A result that would pass the limit writes nothing, and the run is Full.
-fn act_many(done: &mut [u32], coming: &[u32], s: State, from: u32, ids: &[u16]) -> State
-    requires { ⌜ Fits (now done) (now coming) (s .place) × (s .place .idx < limit) × (length (now ids) ≤ limit) ⌝ }
-    ensures { λ r. ⌜ Ran (now (done .exit)) (now (coming .entry)) r
-        (manyOn from (now (ids .entry)) (runOf (now (done .entry)) (now (coming .entry)) s)) ⌝ }
-{
-    let here = s.place;
-    let g = glyph::read(coming, here.idx);
-    if g.id != from {
-        return s;
-    }
-    if text::is_full(here, ids.len()) {
-        return ended(s, Ending::Full);
-    }
-    let place = text::replace_many(done, coming, here, ids);
-    parted(s, place)
-}
-
-// Kinds 1 and 2; any other entry does nothing here. `coming` is lent as the cycle has it, to write to; these two only read it.
-pub fn act(done: &mut [u32], coming: &mut [u32], book: &[u16], e: Entry, s: State) -> State
-    requires { ⌜ Fits (now done) (now coming) (s .place) × (s .place .idx < limit) × EntryInside (length (now book)) e ⌝ }
-    ensures { λ r. ⌜ Ran (now (done .exit)) (now (coming .exit)) r
-        (actedBy (now (book .entry)) e (runOf (now (done .entry)) (now (coming .entry)) s)) ⌝ }
-{
-    match e {
-        Entry::One { props: _, from, to } => act_one(done, coming, s, from, to),
-        Entry::Many {
-            props: _,
-            from,
-            ids,
-        } => {
-            let a = ids.from;
-            let z = ids.to;
-            act_many(done, coming, s, from, &book[a..z])
-        }
-        Entry::Chain { props: _, parts: _ } => s,
-        Entry::Missing => s,
-    }
 }

@@ -33,9 +33,9 @@ use Rattle.book.proofs.find_in.Reads as find-in-reads
 use Rattle.book.proofs.is_chain.Reads as is-chain-reads
 use Rattle.run_positions.proofs.repair.Reads as repair-reads
 use Rattle.run_chain_match.proofs.take_aim.Reads as take-aim-reads
-use Rattle.run_step.proofs.act.Reads as act-reads
 use Rattle.run_step.proofs.finish.Reads as finish-reads
 use Rattle.run_step.proofs.prepare.Reads as prepare-reads
+use Rattle.run_act.proofs.act.Reads as act-reads
 use Rattle.text.proofs.size.Reads as size-reads
 use Rattle.run_cycle.proofs.+chain+lookup.{statement}
 use Rattle.run_cycle.proofs.+chain+lookup.Tie.{close}

@@ -4,10 +4,10 @@ use native.Mathlib.Omega.{arith}
 use lib.ListN.{length}
 use Rattle.text.specs.Laws.{sizes}
 use Rattle.text.specs.Changes.{room-for}
-use Rattle.run_step.specs.Steps.{inside, many-off, many-full, many-on}
+use Rattle.run_act.specs.Laws.{inside, many-off, many-full, many-on}
 use borrow.Author.Needs.{needs}
-use Rattle.run_step.proofs.act_many.Statement.{statement}
-use Rattle.run_step.proofs.act_many.Tie as tie
+use Rattle.run_act.proofs.act_many.Statement.{statement}
+use Rattle.run_act.proofs.act_many.Tie as tie
 
 read-requires : tie.Need-read-requires
 read-requires c κs =

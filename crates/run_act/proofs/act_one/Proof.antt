@@ -1,10 +1,10 @@
 -- The glyph that was read is the cursor's. Assumes nothing.
 use native.Mathlib.Omega.{arith}
 use Rattle.text.specs.Laws.{sizes}
-use Rattle.run_step.specs.Steps.{inside, one-off, one-on}
+use Rattle.run_act.specs.Laws.{inside, one-off, one-on}
 use borrow.Author.Needs.{needs}
-use Rattle.run_step.proofs.act_one.Statement.{statement}
-use Rattle.run_step.proofs.act_one.Tie as tie
+use Rattle.run_act.proofs.act_one.Statement.{statement}
+use Rattle.run_act.proofs.act_one.Tie as tie
 
 read-requires : tie.Need-read-requires
 read-requires c κs =

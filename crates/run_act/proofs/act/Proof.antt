@@ -4,10 +4,10 @@ use native.Mathlib.Omega.{arith}
 use lib.ListN.{length, length-take, length-drop}
 use Rattle.book.specs.Book.{mostIds}
 use Rattle.book.specs.Inside.{PartInside}
-use Rattle.run_step.specs.Steps.{limit-most}
+use Rattle.run_act.specs.Laws.{limit-most}
 use borrow.Author.Needs.{needs}
-use Rattle.run_step.proofs.act.Statement.{statement}
-use Rattle.run_step.proofs.act.Tie as tie
+use Rattle.run_act.proofs.act.Statement.{statement}
+use Rattle.run_act.proofs.act.Tie as tie
 
 enum-known-e : tie.Need-enum-known-e
 enum-known-e c = search needs
