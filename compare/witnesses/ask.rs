@@ -139,9 +139,14 @@ fn begins(words: &[u32], length: usize) -> Vec<u32> {
     row
 }
 
-// A row whose 4,096 words end with these.
+// The words of a run's row.
+fn row_words() -> usize {
+    glyph::WORDS * glyph::LIMIT
+}
+
+// A run's row that ends with these words, and then has another length.
 fn ends(words: &[u32], length: usize) -> Vec<u32> {
-    let mut row = vec![0; 4096 - words.len()];
+    let mut row = vec![0; row_words() - words.len()];
     row.extend(words);
     row.resize(length, 0);
     row
@@ -204,7 +209,7 @@ fn ran(a: run_calls::RunAnswer, before: [Vec<u32>; 2], after: [Vec<u32>; 2]) -> 
         run::RunEnding::Ended(ending) => ending,
     };
     let [done, coming] = after;
-    let (done, coming) = (done.split_at(4 * a.d), coming[..4096].split_at(4 * a.idx));
+    let (done, coming) = (done.split_at(4 * a.d), coming[..row_words()].split_at(4 * a.idx));
     let show =
         |g: &[u32]| if g[1..] == [1, 0, 0x101] { g[0].to_string() } else { format!("{g:?}") };
     let mut text: Vec<String> = done.0.chunks(4).chain(coming.1.chunks(4)).map(show).collect();
@@ -232,14 +237,14 @@ fn desk_run(
     depth: usize,
 ) -> String {
     let count = coming.len() / 4;
-    let idx = 1024 - count;
+    let idx = glyph::LIMIT - count;
     let mut positions = [0; 64];
-    for (k, place) in (idx..1024).enumerate() {
+    for (k, place) in (idx..glyph::LIMIT).enumerate() {
         positions[k] = place as u16;
     }
-    let m = desk::matches::Matched { number, total: 0, end: 1024, count, positions };
+    let m = desk::matches::Matched { number, total: 0, end: glyph::LIMIT, count, positions };
     let switches = desk::nestings::Switches { zwnj: false, zwj: false, syllables: false, mask: 1 };
-    let (mut done, mut coming) = (vec![0; 4096], ends(coming, 4096));
+    let (mut done, mut coming) = (vec![0; row_words()], ends(coming, row_words()));
     let r = desk::nestings::cb_run(
         &mut done,
         &mut coming,

@@ -4,6 +4,9 @@ What is asked is an expression of Rust, written by the functions below. An answe
 makes of it; "stops" is a program that panics. CONTRACT is an edit of a contract alone, which leaves the program as it is.
 """
 
+import pathlib
+import re
+
 CONTRACT = "an edit of a contract"
 
 
@@ -52,6 +55,15 @@ def charged(opened, charge):
 
 
 # ---- glyphs, rows, lookups
+
+
+def of_glyph(name):
+    """A number that crates/glyph has under this name: the words of a glyph, the glyphs of a row."""
+    source = (pathlib.Path(__file__).parents[2] / "crates/glyph/src/lib.rt").read_text()
+    return int(re.search(rf"^pub const {name}: usize = (\d+);$", source, re.MULTILINE).group(1))
+
+
+WORDS, LIMIT = of_glyph("WORDS"), of_glyph("LIMIT")
 
 IGNORABLE, ZWNJ, ZWJ, HIDDEN = 1, 2, 4, 8  # flags
 BASE, LIGATURE, MARK = 2, 4, 8  # props
@@ -186,7 +198,6 @@ def reads(asked, *pieces):
 # ---- books and runs
 
 KIND_1, KIND_2, KIND_3 = 1, 2, 3
-LIMIT = 1024
 STRUCTS = "run_of_structs"
 
 
@@ -218,8 +229,8 @@ def run(
     mask=1,
     allowance=1,
     depth=1,
-    done_words=4096,
-    coming_words=4096,
+    done_words=WORDS * LIMIT,
+    coming_words=WORDS * LIMIT,
     how="run",  # or STRUCTS: with the records as structs
 ):
     """A run as in K11: `coming` ends its row, and is matched whole."""
@@ -237,7 +248,7 @@ def one_glyph(records=(), book=(), **other):
 
 
 K11_BOOK = lookup(KIND_2, 2, 2, 2, 2)
-K11_ANSWER = "Finished, spent 1, d 4, idx 1024, 4 at [0, 1, 2, 3], text 1 2 2 3"
+K11_ANSWER = f"Finished, spent 1, d 4, idx {LIMIT}, 4 at [0, 1, 2, 3], text 1 2 2 3"
 
 
 def k11(coming=(1, 2, 3), book=K11_BOOK, records=((1, 0),), **other):
@@ -322,7 +333,7 @@ TABLE = {
         "a_glyph_counts_as_three_words": (said("glyph::count(&[0; 12])"), "3", "4"),
         "a_pair_is_glyph_and_set": (said("glyph::in_set(&[3, 9], 3, 9)"), "true", "false"),
         "a_row_over_the_limit_is_taken": (
-            match_input([0] * 1025, [], length=1), "Refused(Shape), 0 at []", "Matched { end: 1, total: 1 }, 1 at [0]",
+            match_input([0] * (LIMIT + 1), [], length=1), "Refused(Shape), 0 at []", "Matched { end: 1, total: 1 }, 1 at [0]",
         ),
         "a_syllable_is_written_into_props": (
             call("written", "&mut [0; 4]", 0, "glyph::read(&[0, 0, 65536, 0], 0)"), "[0, 0, 65536, 0]", "[0, 0, 256, 0]",
@@ -485,7 +496,7 @@ TABLE = {
         "a_cursor_past_the_end_is_refused_by_1": (tape(frame([5], cursor=1)), "02", "01"),
         "every_match_has_one_reply": (match_input([5, 7]), K1_ANSWER, "Lost(1), 0 at [] and an unused slot filled"),
         "number_4_is_taken_for_a_success": (
-            desk_k11(number=4), "7, spent 0, d 0, idx 0, 0 at []", "0, spent 1, d 4, idx 1024, 4 at [0, 1, 2, 3]",
+            desk_k11(number=4), "7, spent 0, d 0, idx 0, 0 at []", f"0, spent 1, d 4, idx {LIMIT}, 4 at [0, 1, 2, 3]",
         ),
         "the_cursor_glyph_is_tested": (match_input([5, 7]), K1_ANSWER, "Lost(1), 0 at []"),
         "the_end_is_the_texts": (
@@ -538,58 +549,58 @@ TABLE = {
         ),
     },
     "text": {
-        "a_coming_row_of_another_length_is_taken": (k11(coming_words=4100), "refused for its Shape, no word changed", K11_ANSWER),
+        "a_coming_row_of_another_length_is_taken": (k11(coming_words=WORDS * (LIMIT + 1)), "refused for its Shape, no word changed", K11_ANSWER),
         "a_cursor_at_the_end_is_taken": (
-            run([], [], [], places=[1024]), "refused for its Cursor, no word changed", "refused for its Match, no word changed",
+            run([], [], [], places=[LIMIT]), "refused for its Cursor, no word changed", "refused for its Match, no word changed",
         ),
-        "a_done_row_of_another_length_is_taken": (k11(done_words=4100), "refused for its Shape, no word changed", K11_ANSWER),
+        "a_done_row_of_another_length_is_taken": (k11(done_words=WORDS * (LIMIT + 1)), "refused for its Shape, no word changed", K11_ANSWER),
         "a_move_forth_takes_d_glyphs": (
             one_glyph(),
-            "Finished, spent 0, d 1, idx 1024, 1 at [0], text 5",
-            "Finished, spent 0, d 1, idx 1023, 1 at [0], text 5 5",
+            f"Finished, spent 0, d 1, idx {LIMIT}, 1 at [0], text 5",
+            f"Finished, spent 0, d 1, idx {LIMIT - 1}, 1 at [0], text 5 5",
         ),
         "a_text_over_the_limit_is_taken": (
             run([5], [], [], d=1, idx=0, places=[0], end=1),
             "refused for its Shape, no word changed",
-            "Finished, spent 0, d 2, idx 1, 1 at [1], text of 1025 glyphs",
+            f"Finished, spent 0, d 2, idx 1, 1 at [1], text of {LIMIT + 1} glyphs",
         ),
         "a_written_glyph_keeps_its_id": (
             one_glyph([(0, 0)], lookup(KIND_1, 5, 7)),
-            "Finished, spent 1, d 1, idx 1024, 1 at [0], text 7",
-            "Finished, spent 1, d 1, idx 1024, 1 at [0], text 5",
+            f"Finished, spent 1, d 1, idx {LIMIT}, 1 at [0], text 7",
+            f"Finished, spent 1, d 1, idx {LIMIT}, 1 at [0], text 5",
         ),
         "a_written_glyph_loses_its_mask": (
             one_glyph([(0, 0)], lookup(KIND_1, 5, 7)),
-            "Finished, spent 1, d 1, idx 1024, 1 at [0], text 7",
-            "Finished, spent 1, d 1, idx 1024, 1 at [0], text [5, 7, 0, 257]",
+            f"Finished, spent 1, d 1, idx {LIMIT}, 1 at [0], text 7",
+            f"Finished, spent 1, d 1, idx {LIMIT}, 1 at [0], text [5, 7, 0, 257]",
         ),
         "d_past_its_row_is_refused_by_2": (
-            k11(d=1025, idx=1025, places=[1021, 1022, 1023]),
+            k11(d=LIMIT + 1, idx=LIMIT + 1, places=[LIMIT - 3, LIMIT - 2, LIMIT - 1]),
             "refused for its Shape, no word changed",
             "refused for its Cursor, no word changed",
         ),
         "full_is_judged_one_glyph_late": (
-            run([5] * 1024, lookup(KIND_2, 5, 2, 5, 5), [(0, 0)], places=[0], end=1),
-            "Full, spent 1, d 0, idx 0, 1 at [0], text of 1024 glyphs",
-            "Finished, spent 1, d 2, idx 1, 2 at [0, 1], text of 1025 glyphs",
+            run([5] * LIMIT, lookup(KIND_2, 5, 2, 5, 5), [(0, 0)], places=[0], end=1),
+            f"Full, spent 1, d 0, idx 0, 1 at [0], text of {LIMIT} glyphs",
+            f"Finished, spent 1, d 2, idx 1, 2 at [0, 1], text of {LIMIT + 1} glyphs",
         ),
         "leaves_the_cursor_before_what_it_wrote": (
             k11(),
             K11_ANSWER,
-            "Finished, spent 1, d 3, idx 1024, 3 at [0, 1, 2], text 1 2 3",
+            f"Finished, spent 1, d 3, idx {LIMIT}, 3 at [0, 1, 2], text 1 2 3",
         ),
         "leaves_what_is_before_the_cursor": (
             one_glyph(),
-            "Finished, spent 0, d 1, idx 1024, 1 at [0], text 5",
-            "Finished, spent 0, d 1, idx 1024, 1 at [0], text 5, cells left",
+            f"Finished, spent 0, d 1, idx {LIMIT}, 1 at [0], text 5",
+            f"Finished, spent 0, d 1, idx {LIMIT}, 1 at [0], text 5, cells left",
         ),
         "no_cell_is_cleared": (k11(), K11_ANSWER, K11_ANSWER + ", cells left"),
     },
     "book": {
         "a_chain_acts_by_itself": (
             one_glyph([(0, 0)], chain(5, records=[(0, 1)]) + lookup(KIND_1, 5, 7), allowance=2, depth=2),
-            "Finished, spent 2, d 1, idx 1024, 1 at [0], text 7",
-            "Finished, spent 1, d 1, idx 1024, 1 at [0], text 5",
+            f"Finished, spent 2, d 1, idx {LIMIT}, 1 at [0], text 7",
+            f"Finished, spent 1, d 1, idx {LIMIT}, 1 at [0], text 5",
         ),
         "a_word_over_reads": (call("lookups", [3, 0, 0, 6, 5, 0, 0, 0, 0, 9]), "doesn't read", "props 0, a chain on 5, records []"),
         "kind_4_reads": (call("lookups", [4, 0, 0, 5, 5, 0, 0, 0, 0]), "doesn't read", "props 0, a chain on 5, records []"),
@@ -619,143 +630,143 @@ TABLE = {
         ),
         "deep_moves_to_the_end": (
             k11(depth=0),
-            "Deep, spent 0, d 1, idx 1022, 3 at [0, 1, 2], text 1 2 3",
-            "Deep, spent 0, d 3, idx 1024, 3 at [0, 1, 2], text 1 2 3",
+            f"Deep, spent 0, d 1, idx {LIMIT - 2}, 3 at [0, 1, 2], text 1 2 3",
+            f"Deep, spent 0, d 3, idx {LIMIT}, 3 at [0, 1, 2], text 1 2 3",
         ),
         "short_is_answered_as_9": (
-            desk_k11(allowance=0), "8, spent 0, d 3, idx 1024, 3 at [0, 1, 2]", "9, spent 0, d 3, idx 1024, 3 at [0, 1, 2]",
+            desk_k11(allowance=0), f"8, spent 0, d 3, idx {LIMIT}, 3 at [0, 1, 2]", f"9, spent 0, d 3, idx {LIMIT}, 3 at [0, 1, 2]",
         ),
         "short_stays_where_it_stopped": (
             k11(allowance=0),
-            "Short, spent 0, d 3, idx 1024, 3 at [0, 1, 2], text 1 2 3",
-            "Short, spent 0, d 1, idx 1022, 3 at [0, 1, 2], text 1 2 3",
+            f"Short, spent 0, d 3, idx {LIMIT}, 3 at [0, 1, 2], text 1 2 3",
+            f"Short, spent 0, d 1, idx {LIMIT - 2}, 3 at [0, 1, 2], text 1 2 3",
         ),
     },
     "run_positions": {
         "a_level_stops_past_63": (
             run([2] * 63, K11_BOOK, [(0, 0)]),
-            f"Finished, spent 1, d 64, idx 1024, 64 at {list(range(64))}, text of 64 glyphs",
-            f"Finished, spent 1, d 64, idx 1024, 63 at {list(range(63))}, text of 64 glyphs",
+            f"Finished, spent 1, d 64, idx {LIMIT}, 64 at {list(range(64))}, text of 64 glyphs",
+            f"Finished, spent 1, d 64, idx {LIMIT}, 63 at {list(range(63))}, text of 64 glyphs",
         ),
         "a_loss_drops_the_records_own_position": (
-            k11([1, 2, 9, 3], lookup(KIND_2, 2, 0), places=[1020, 1021, 1023]),
-            "Finished, spent 1, d 3, idx 1024, 2 at [0, 1], text 1 9 3",
-            "Finished, spent 1, d 3, idx 1024, 2 at [0, 2], text 1 9 3",
+            k11([1, 2, 9, 3], lookup(KIND_2, 2, 0), places=[LIMIT - 4, LIMIT - 3, LIMIT - 1]),
+            f"Finished, spent 1, d 3, idx {LIMIT}, 2 at [0, 1], text 1 9 3",
+            f"Finished, spent 1, d 3, idx {LIMIT}, 2 at [0, 2], text 1 9 3",
         ),
         "later_positions_rise_by_the_records_index": (
             run([2, 3], K11_BOOK, [(0, 0)]),
-            "Finished, spent 1, d 3, idx 1024, 3 at [0, 1, 2], text 2 2 3",
-            "Finished, spent 1, d 3, idx 1024, 3 at [0, 1, 1], text 2 2 3",
+            f"Finished, spent 1, d 3, idx {LIMIT}, 3 at [0, 1, 2], text 2 2 3",
+            f"Finished, spent 1, d 3, idx {LIMIT}, 3 at [0, 1, 1], text 2 2 3",
         ),
         "the_end_goes_before_the_record": (
-            run([9, 2, 2], lookup(KIND_2, 2, 0), [(1, 0), (1, 0)], places=[1021, 1022], end=1023, allowance=2),
-            "Finished, spent 2, d 1, idx 1024, 2 at [0, 1], text 9",
-            "Finished, spent 2, d 0, idx 1023, 2 at [0, 1], text 9",
+            run([9, 2, 2], lookup(KIND_2, 2, 0), [(1, 0), (1, 0)], places=[LIMIT - 3, LIMIT - 2], end=LIMIT - 1, allowance=2),
+            f"Finished, spent 2, d 1, idx {LIMIT}, 2 at [0, 1], text 9",
+            f"Finished, spent 2, d 0, idx {LIMIT - 1}, 2 at [0, 1], text 9",
         ),
         "the_end_is_counted_in_coming": (
-            run([5] * 1023, [], [], places=[1], end=2),
-            "Finished, spent 0, d 1, idx 2, 1 at [0], text of 1023 glyphs",
-            "Finished, spent 0, d 2, idx 3, 1 at [0], text of 1023 glyphs",
+            run([5] * (LIMIT - 1), [], [], places=[1], end=2),
+            f"Finished, spent 0, d 1, idx 2, 1 at [0], text of {LIMIT - 1} glyphs",
+            f"Finished, spent 0, d 2, idx 3, 1 at [0], text of {LIMIT - 1} glyphs",
         ),
     },
     "run_chain_match": {
         "a_chain_is_matched_with_all_mask_bits": (
             run([5, glyph(6, mask=2)], chain(5, input=[6], records=[(0, 1)]) + lookup(KIND_1, 5, 9), [(0, 0)], allowance=2, depth=2),
-            "Finished, spent 1, d 2, idx 1024, 2 at [0, 1], text 5 [6, 2, 0, 257]",
-            "Finished, spent 2, d 2, idx 1024, 2 at [0, 1], text 9 [6, 2, 0, 257]",
+            f"Finished, spent 1, d 2, idx {LIMIT}, 2 at [0, 1], text 5 [6, 2, 0, 257]",
+            f"Finished, spent 2, d 2, idx {LIMIT}, 2 at [0, 1], text 9 [6, 2, 0, 257]",
         ),
         "a_chain_starts_lookahead_at_the_cursor": (
             run([5, 6, 7], chain(5, input=[6], lookahead=[7], records=[(0, 1)]) + lookup(KIND_1, 5, 8), [(0, 0)], allowance=2, depth=2),
-            "Finished, spent 2, d 3, idx 1024, 3 at [0, 1, 2], text 8 6 7",
-            "Finished, spent 1, d 3, idx 1024, 3 at [0, 1, 2], text 5 6 7",
+            f"Finished, spent 2, d 3, idx {LIMIT}, 3 at [0, 1, 2], text 8 6 7",
+            f"Finished, spent 1, d 3, idx {LIMIT}, 3 at [0, 1, 2], text 5 6 7",
         ),
         "a_chain_takes_any_glyph_for_its_backtrack": (
             run([5], chain(5, backtrack=[6], records=[(0, 1)]) + lookup(KIND_1, 5, 8), [(0, 0)], done=[9], allowance=2, depth=2),
-            "Finished, spent 1, d 2, idx 1024, 1 at [1], text 9 5",
-            "Finished, spent 2, d 2, idx 1024, 1 at [1], text 9 8",
+            f"Finished, spent 1, d 2, idx {LIMIT}, 1 at [1], text 9 5",
+            f"Finished, spent 2, d 2, idx {LIMIT}, 1 at [1], text 9 8",
         ),
         "a_chain_takes_any_glyph_for_its_first": (
             run([9, 6], chain(5, input=[6], records=[(0, 1)]) + lookup(KIND_1, 9, 8), [(0, 0)], allowance=2, depth=2),
-            "Finished, spent 1, d 2, idx 1024, 2 at [0, 1], text 9 6",
-            "Finished, spent 2, d 2, idx 1024, 2 at [0, 1], text 8 6",
+            f"Finished, spent 1, d 2, idx {LIMIT}, 2 at [0, 1], text 9 6",
+            f"Finished, spent 2, d 2, idx {LIMIT}, 2 at [0, 1], text 8 6",
         ),
     },
     "run_step": {
         "a_position_at_the_texts_length_is_taken": (
             run([1], lookup(KIND_2, 1, 0), [(0, 0), (0, 0)]),
-            "Finished, spent 1, d 0, idx 1024, 1 at [0], text of 0 glyphs",
-            "Short, spent 1, d 0, idx 1024, 1 at [0], text of 0 glyphs",
+            f"Finished, spent 1, d 0, idx {LIMIT}, 1 at [0], text of 0 glyphs",
+            f"Short, spent 1, d 0, idx {LIMIT}, 1 at [0], text of 0 glyphs",
         ),
         "a_sequence_index_at_the_count_is_taken": (
             k11(records=[(3, 0)]),
-            "Finished, spent 0, d 3, idx 1024, 3 at [0, 1, 2], text 1 2 3",
-            "Finished, spent 1, d 3, idx 1024, 3 at [0, 1, 2], text 1 2 3",
+            f"Finished, spent 0, d 3, idx {LIMIT}, 3 at [0, 1, 2], text 1 2 3",
+            f"Finished, spent 1, d 3, idx {LIMIT}, 3 at [0, 1, 2], text 1 2 3",
         ),
         "a_stop_invents_the_number_spent": (
             k11(depth=0),
-            "Deep, spent 0, d 1, idx 1022, 3 at [0, 1, 2], text 1 2 3",
-            "Deep, spent 1, d 1, idx 1022, 3 at [0, 1, 2], text 1 2 3",
+            f"Deep, spent 0, d 1, idx {LIMIT - 2}, 3 at [0, 1, 2], text 1 2 3",
+            f"Deep, spent 1, d 1, idx {LIMIT - 2}, 3 at [0, 1, 2], text 1 2 3",
         ),
         "a_try_spends_two": (
             k11(),
             K11_ANSWER,
-            "Finished, spent 2, d 4, idx 1024, 4 at [0, 1, 2, 3], text 1 2 2 3",
+            f"Finished, spent 2, d 4, idx {LIMIT}, 4 at [0, 1, 2, 3], text 1 2 2 3",
         ),
         "all_runs_are_short": (
             k11(),
             K11_ANSWER,
-            "Short, spent 0, d 3, idx 1024, 3 at [0, 1, 2], text 1 2 3",
+            f"Short, spent 0, d 3, idx {LIMIT}, 3 at [0, 1, 2], text 1 2 3",
         ),
         "no_allowance_is_answered_as_deep": (
             k11(allowance=0, depth=0),
-            "Short, spent 0, d 3, idx 1024, 3 at [0, 1, 2], text 1 2 3",
-            "Deep, spent 0, d 1, idx 1022, 3 at [0, 1, 2], text 1 2 3",
+            f"Short, spent 0, d 3, idx {LIMIT}, 3 at [0, 1, 2], text 1 2 3",
+            f"Deep, spent 0, d 1, idx {LIMIT - 2}, 3 at [0, 1, 2], text 1 2 3",
         ),
         "short_counts_as_finished": (
             k11(allowance=0),
-            "Short, spent 0, d 3, idx 1024, 3 at [0, 1, 2], text 1 2 3",
-            "Finished, spent 0, d 3, idx 1024, 3 at [0, 1, 2], text 1 2 3",
+            f"Short, spent 0, d 3, idx {LIMIT}, 3 at [0, 1, 2], text 1 2 3",
+            f"Finished, spent 0, d 3, idx {LIMIT}, 3 at [0, 1, 2], text 1 2 3",
         ),
     },
     "run_act": {
         "full_writes_all_the_same": (
-            run([2] * 1024, K11_BOOK, [(0, 0)], places=[0], end=1),
-            "Full, spent 1, d 0, idx 0, 1 at [0], text of 1024 glyphs",
-            "Finished, spent 1, d 2, idx 1, 2 at [0, 1], text of 1025 glyphs",
+            run([2] * LIMIT, K11_BOOK, [(0, 0)], places=[0], end=1),
+            f"Full, spent 1, d 0, idx 0, 1 at [0], text of {LIMIT} glyphs",
+            f"Finished, spent 1, d 2, idx 1, 2 at [0, 1], text of {LIMIT + 1} glyphs",
         ),
         "kind_1_touches_nothing": (
             run([1], lookup(KIND_1, 1, 2), [(0, 0)]),
-            "Finished, spent 1, d 1, idx 1024, 1 at [0], text 2",
-            "Finished, spent 1, d 1, idx 1024, 1 at [0], text 1",
+            f"Finished, spent 1, d 1, idx {LIMIT}, 1 at [0], text 2",
+            f"Finished, spent 1, d 1, idx {LIMIT}, 1 at [0], text 1",
         ),
-        "kind_2_touches_nothing": (k11(), K11_ANSWER, "Finished, spent 1, d 3, idx 1024, 3 at [0, 1, 2], text 1 2 3"),
+        "kind_2_touches_nothing": (k11(), K11_ANSWER, f"Finished, spent 1, d 3, idx {LIMIT}, 3 at [0, 1, 2], text 1 2 3"),
     },
     "run_cycle": {
         "a_chain_that_matches_does_nothing": (
             run([5, 6], chain(5, records=[(0, 1)]) + lookup(KIND_1, 5, 9), [(0, 0)], allowance=2, depth=2),
-            "Finished, spent 2, d 2, idx 1024, 2 at [0, 1], text 9 6",
-            "Finished, spent 1, d 2, idx 1024, 2 at [0, 1], text 5 6",
+            f"Finished, spent 2, d 2, idx {LIMIT}, 2 at [0, 1], text 9 6",
+            f"Finished, spent 1, d 2, idx {LIMIT}, 2 at [0, 1], text 5 6",
         ),
         "all_records_count_as_done_after_the_first": (
             run([1, 1], lookup(KIND_1, 1, 2), [(0, 0), (1, 0)], allowance=2),
-            "Finished, spent 2, d 2, idx 1024, 2 at [0, 1], text 2 2",
-            "Finished, spent 1, d 2, idx 1024, 2 at [0, 1], text 2 1",
+            f"Finished, spent 2, d 2, idx {LIMIT}, 2 at [0, 1], text 2 2",
+            f"Finished, spent 1, d 2, idx {LIMIT}, 2 at [0, 1], text 2 1",
         ),
         "positions_are_not_repaired": (
             k11(),
             K11_ANSWER,
-            "Finished, spent 1, d 3, idx 1023, 3 at [0, 1, 2], text 1 2 2 3",
+            f"Finished, spent 1, d 3, idx {LIMIT - 1}, 3 at [0, 1, 2], text 1 2 2 3",
         ),
     },
     "run_refuse": {
         "a_depth_of_65_is_run": (k11(depth=65), "refused for its Limits, no word changed", K11_ANSWER),
         "a_match_may_begin_after_the_cursor": (
-            k11(records=[(0, 0)], places=[1022, 1023]),
+            k11(records=[(0, 0)], places=[LIMIT - 2, LIMIT - 1]),
             "refused for its Match, no word changed",
-            "Finished, spent 1, d 4, idx 1024, 3 at [1, 2, 3], text 1 2 2 3",
+            f"Finished, spent 1, d 4, idx {LIMIT}, 3 at [1, 2, 3], text 1 2 2 3",
         ),
         "a_run_looks_at_the_limits_before_the_cursor": (
-            k11(idx=1024, depth=65), "refused for its Cursor, no word changed", "refused for its Limits, no word changed",
+            k11(idx=LIMIT, depth=65), "refused for its Cursor, no word changed", "refused for its Limits, no word changed",
         ),
         "a_run_looks_at_the_limits_before_the_shape": (
             k11(records=[1], depth=65), "refused for its Shape, no word changed", "refused for its Limits, no word changed",
@@ -778,24 +789,24 @@ TABLE = {
         "cells_are_cleared_by_the_first_place": (
             k11(),
             K11_ANSWER,
-            f"Finished, spent 1, d 4, idx 1024, 4 at [0, 1, 2, 3], text {' '.join(['[0, 0, 0, 0]'] * 4)}, cells left",
+            f"Finished, spent 1, d 4, idx {LIMIT}, 4 at [0, 1, 2, 3], text {' '.join(['[0, 0, 0, 0]'] * 4)}, cells left",
         ),
         "without_allowance_the_book_is_not_read": (
             k11(book=[0], count=0, allowance=0), "refused for its Book, no word changed", "refused for its Match, no word changed",
         ),
     },
     "run_record_structs": {
-        "no_record_is_run": (k11(how=STRUCTS), K11_ANSWER, "Finished, spent 0, d 3, idx 1024, 3 at [0, 1, 2], text 1 2 3"),
-        "sequence_and_lookup_are_swapped": (k11(how=STRUCTS), K11_ANSWER, "Finished, spent 1, d 3, idx 1024, 3 at [0, 1, 2], text 1 2 3"),
+        "no_record_is_run": (k11(how=STRUCTS), K11_ANSWER, f"Finished, spent 0, d 3, idx {LIMIT}, 3 at [0, 1, 2], text 1 2 3"),
+        "sequence_and_lookup_are_swapped": (k11(how=STRUCTS), K11_ANSWER, f"Finished, spent 1, d 3, idx {LIMIT}, 3 at [0, 1, 2], text 1 2 3"),
         "seventeen_records_are_accepted": (
             k11(records=[(1, 0)] * 17, allowance=17, how=STRUCTS),
             "refused for its Shape, no word changed",
-            f"Finished, spent 16, d 19, idx 1024, 19 at {list(range(19))}, text of 19 glyphs",
+            f"Finished, spent 16, d 19, idx {LIMIT}, 19 at {list(range(19))}, text of 19 glyphs",
         ),
         "the_first_record_is_forgotten": (
             k11([1, 1], lookup(KIND_1, 1, 2), [(0, 0), (1, 0)], allowance=2, how=STRUCTS),
-            "Finished, spent 2, d 2, idx 1024, 2 at [0, 1], text 2 2",
-            "Finished, spent 1, d 2, idx 1024, 2 at [0, 1], text 1 2",
+            f"Finished, spent 2, d 2, idx {LIMIT}, 2 at [0, 1], text 2 2",
+            f"Finished, spent 1, d 2, idx {LIMIT}, 2 at [0, 1], text 1 2",
         ),
     },
     "tape_frame": {
@@ -870,7 +881,7 @@ TABLE = {
     },
     "desk": {
         "a_run_answers_d_for_idx": (
-            desk_k11(), "0, spent 1, d 4, idx 1024, 4 at [0, 1, 2, 3]", "0, spent 1, d 4, idx 4, 4 at [0, 1, 2, 3]",
+            desk_k11(), f"0, spent 1, d 4, idx {LIMIT}, 4 at [0, 1, 2, 3]", "0, spent 1, d 4, idx 4, 4 at [0, 1, 2, 3]",
         ),
         "a_union_forgets_the_other": ("desk_union([0, 0, 0], [1, 1, 1])", "[1, 1, 1]", "[0, 0, 0]"),
         "the_extent_is_lost": (call("desk_input", row([5]), [7]), "4, end 1, total 0, 0 at []", "4, end 0, total 0, 0 at []"),
