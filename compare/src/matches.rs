@@ -7,6 +7,7 @@ use crate::kinds::Comparison;
 use crate::ours::{self, Answer};
 use crate::paper;
 use crate::paper::matchers::{self, By};
+use crate::paper::MOST_GLYPHS;
 use crate::progress::grouped;
 use crate::random::Random;
 use crate::summary::Summary;
@@ -439,9 +440,9 @@ fn calm_setup(random: &mut Random) -> Setup {
 /// Mostly short; some as long as a row may be.
 fn counts(random: &mut Random) -> [usize; 2] {
     match random.below(1000) {
-        0 => [random.near(&[1023], 1) as usize, random.below(4) as usize],
-        1 => [random.below(4) as usize, random.near(&[1023], 1) as usize],
-        2 => [1024, 1024],
+        0 => [random.near(&[MOST_GLYPHS as u64 - 1], 1) as usize, random.below(4) as usize],
+        1 => [random.below(4) as usize, random.near(&[MOST_GLYPHS as u64 - 1], 1) as usize],
+        2 => [MOST_GLYPHS; 2],
         3..=40 => [random.below(90) as usize, random.below(90) as usize],
         _ => [random.below(6) as usize, 1 + random.below(9) as usize],
     }
@@ -646,8 +647,8 @@ fn damaged(asker: &mut Asker, random: &mut Random, plenty: &[Glyph]) {
     let wrong: Vec<u64> = (0..1 + random.below(2)).map(|_| random.below(11)).collect();
     let is_wrong = |fault| wrong.contains(&fault);
     let size = |random: &mut Random, over: bool| match over {
-        true => random.pick(&[1025, 1026]),
-        false => random.pick(&[0, 1, 2, 3, 12, 66, 1024]),
+        true => random.pick(&[MOST_GLYPHS + 1, MOST_GLYPHS + 2]),
+        false => random.pick(&[0, 1, 2, 3, 12, 66, MOST_GLYPHS]),
     };
     let [before, after] = [size(random, is_wrong(0)), size(random, is_wrong(1)).max(1)];
     let past = |random: &mut Random, end: usize| match random.below(3) {

@@ -8,8 +8,8 @@ use original::terms::{May, Role, Setup, Test, Verdict, Walked};
 
 // ---- "A glyph in four words"
 
-const WORDS: usize = 4;
-const MOST_GLYPHS: usize = 1024;
+pub const WORDS: usize = 4;
+pub const MOST_GLYPHS: usize = 1024;
 
 const IGNORABLE: u32 = 1;
 const ZWNJ: u32 = 2;
@@ -245,7 +245,7 @@ pub fn backward(place: usize, mut judge: impl FnMut(usize) -> Verdict) -> Walked
 
 pub const REFUSED_BY: [&str; 5] = [
     "refusal 1: row not whole glyphs",
-    "refusal 1: row over 1,024 glyphs",
+    "refusal 1: row over the limit",
     "refusal 1: len past its row",
     "refusal 1: place past len, or past its row",
     "refusal 1: odd mark sets",

@@ -395,7 +395,7 @@ impl Comparison for Asker {
             self.ask("cards K11 to K14", &case, None);
         }
         for case in corners::at_the_limit() {
-            self.ask("texts that grow to 1,024 glyphs", &case, None);
+            self.ask("texts that grow to the limit", &case, None);
         }
         for case in corners::chains() {
             self.ask("chains over each glyph of an alphabet", &case, None);

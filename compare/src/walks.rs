@@ -8,7 +8,7 @@ use crate::differences;
 use crate::draw;
 use crate::kinds::Comparison;
 use crate::ours::{self, CSaid, CWalked, Sign};
-use crate::paper;
+use crate::paper::{self, MOST_GLYPHS};
 use crate::random::Random;
 use crate::summary::Summary;
 use crate::trials::Trial;
@@ -397,7 +397,7 @@ fn every_row(asker: &mut Asker) {
 /// Mostly short; some are as long as a row may be.
 fn count(random: &mut Random) -> usize {
     match random.below(1000) {
-        0 => random.near(&[1023], 1) as usize,
+        0 => random.near(&[MOST_GLYPHS as u64 - 1], 1) as usize,
         1..=20 => random.below(100) as usize,
         _ => random.below(13) as usize,
     }
@@ -466,8 +466,8 @@ fn damaged(asker: &mut Asker, random: &mut Random, plenty: &[Glyph]) {
     let wrong: Vec<u64> = (0..1 + random.below(2)).map(|_| random.below(6)).collect();
     let is_wrong = |fault| wrong.contains(&fault);
     let whole = match is_wrong(0) {
-        true => random.pick(&[1025, 1026]),
-        false => random.pick(&[0, 1, 2, 3, 12, 1023, 1024]),
+        true => random.pick(&[MOST_GLYPHS + 1, MOST_GLYPHS + 2]),
+        false => random.pick(&[0, 1, 2, 3, 12, MOST_GLYPHS - 1, MOST_GLYPHS]),
     };
     let past = |random: &mut Random, end: usize| match random.below(3) {
         0 => end + 1,

@@ -124,8 +124,8 @@ const MOST_CONTEXT: usize = 64;
 pub const FAULTS: [&str; 8] = [
     "refusal 1: done not whole glyphs",
     "refusal 1: coming not whole glyphs",
-    "refusal 1: done over 1,024 glyphs",
-    "refusal 1: coming over 1,024 glyphs",
+    "refusal 1: done over the limit",
+    "refusal 1: coming over the limit",
     "refusal 1: d past its row",
     "refusal 1: len past its row",
     "refusal 1: lookahead start past len",

@@ -5,8 +5,8 @@ use super::matchers::{self, Text};
 use original::glyphs::Glyph;
 use original::terms::{Call, Matched, Setup, Testing};
 
-pub const ROW_WORDS: usize = 4096;
-pub const ROW: usize = 1024;
+pub const ROW: usize = super::MOST_GLYPHS;
+pub const ROW_WORDS: usize = super::WORDS * ROW;
 const SLOTS: usize = 64;
 const MOST_RECORDS: usize = 16;
 const MOST_BOOK_WORDS: usize = 4096;
@@ -81,7 +81,7 @@ sentences! {
     TwoGrows "lookup: kind 2 acts, two to seven results"
     TwoGrowsMost "lookup: kind 2 acts, eight results"
     TwoOther "lookup: kind 2, another id"
-    TwoToTheLimit "lookup: kind 2 acts, to 1,024 glyphs exactly"
+    TwoToTheLimit "lookup: kind 2 acts, to the limit exactly"
     ThreeActs "lookup: kind 3 matches"
     ThreeFirst "lookup: kind 3, another first id"
     ThreeInput "lookup: kind 3, no input match"
@@ -195,10 +195,10 @@ pub fn reads(book: &[u16]) -> bool {
 }
 
 pub const FAULTS: [&str; 15] = [
-    "refusal 1: done isn't 4,096 words",
-    "refusal 1: coming isn't 4,096 words",
+    "refusal 1: done isn't a run's row",
+    "refusal 1: coming isn't a run's row",
     "refusal 1: d past its row, of a run",
-    "refusal 1: a run's text over 1,024",
+    "refusal 1: a run's text over the limit",
     "refusal 1: odd mark sets, of a run",
     "refusal 1: odd records",
     "refusal 1: over 16 records",

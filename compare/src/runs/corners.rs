@@ -1,5 +1,6 @@
 //! Runs for which no seed is needed.
 use super::Case;
+use crate::paper::runs::ROW;
 use crate::walks::{all_settings, ALPHABET, PROPS};
 use original::glyphs::Glyph;
 use original::terms::Setup;
@@ -30,7 +31,7 @@ pub fn cards() -> Vec<Case> {
     ]
 }
 
-/// Texts that grow to 1,024 glyphs exactly and no further: Full at the top, and
+/// Texts that grow to the limit exactly and no further: Full at the top, and
 /// Full below, after which positions are still repaired.
 pub fn at_the_limit() -> Vec<Case> {
     // 0: 2 into 2, 2. 1: 2, 1 with records (0, 0), (0, 0), (0, 0).
@@ -38,10 +39,10 @@ pub fn at_the_limit() -> Vec<Case> {
     let mut book = book.to_vec();
     book[11] = (book.len() - 12) as u16;
     let text = |length: usize| glyphs(&[vec![2], vec![1; length - 1]].concat());
-    let whole = text(1023);
+    let whole = text(ROW - 1);
     let top =
         Case::new(plain(), book.clone(), [&[], &whole], vec![0, 0, 0, 0, 0, 0], &[0, 1, 3], 5);
-    let lower = text(1022);
+    let lower = text(ROW - 2);
     let below = Case::new(plain(), book, [&lower[..0], &lower], vec![0, 1, 1, 0], &[0, 1, 3], 5);
     [top, below].into_iter().map(|case| Case { allowance: 9, depth: 3, ..case }).collect()
 }

@@ -1,15 +1,21 @@
 //! What may be wrong in a run, or nearly so.
 use super::Case;
+use crate::paper::runs::{ROW, ROW_WORDS};
+use crate::paper::WORDS;
 use crate::random::Random;
+
+/// Lengths of a row that aren't a run's.
+const LENGTHS: [usize; 7] =
+    [0, WORDS, ROW_WORDS - WORDS, ROW_WORDS - 1, ROW_WORDS + 1, ROW_WORDS + WORDS, 2 * ROW_WORDS];
 
 pub fn damage(random: &mut Random, case: &mut Case) {
     let huge = random.near(&[u64::MAX - 2, 1 << 62, 1 << 32], 2) as usize;
     let matched = &mut case.matched;
     match random.below(20) {
-        0 => case.done.resize(random.pick(&[0, 4, 4092, 4095, 4097, 4100, 8192]), 1),
-        1 => case.coming.resize(random.pick(&[0, 4, 4092, 4095, 4097, 4100, 8192]), 1),
-        2 => case.d = random.pick(&[case.idx, case.idx + 1, 1024, 1025, huge]),
-        3 => case.idx = random.pick(&[case.d, case.d.max(1) - 1, 1023, 1024, 1025, huge]),
+        0 => case.done.resize(random.pick(&LENGTHS), 1),
+        1 => case.coming.resize(random.pick(&LENGTHS), 1),
+        2 => case.d = random.pick(&[case.idx, case.idx + 1, ROW, ROW + 1, huge]),
+        3 => case.idx = random.pick(&[case.d, case.d.max(1) - 1, ROW - 1, ROW, ROW + 1, huge]),
         4 => case.setup.sets.push(1),
         5 => case.records.push(0),
         6 => case.records.resize(random.pick(&[30, 31, 32, 33, 34, 36]), 0),
@@ -28,12 +34,13 @@ pub fn damage(random: &mut Random, case: &mut Case) {
         12 => matched.positions[0] = random.near(&[matched.positions[0].into()], 1) as u16,
         13 => {
             let at = random.below(matched.count.clamp(1, 64) as u64) as usize;
-            matched.positions[at] = random.pick(&[0, 1023, 1024, 0xFFFF, matched.positions[0]]);
+            let end = ROW as u16;
+            matched.positions[at] = random.pick(&[0, end - 1, end, 0xFFFF, matched.positions[0]]);
         }
         14 => {
             let last = matched.positions[matched.count.clamp(1, 64) - 1];
-            let near = random.near(&[last.into(), 1024], 1) as usize;
-            matched.end = random.pick(&[near, 0, 1024, 1025, huge]);
+            let near = random.near(&[last.into(), ROW as u64], 1) as usize;
+            matched.end = random.pick(&[near, 0, ROW, ROW + 1, huge]);
         }
         15 => {
             let at = random.below(case.book.len().max(1) as u64) as usize;

@@ -1,5 +1,6 @@
 //! Books of lookups, texts and matches, drawn so that every clause decides often.
 use super::Case;
+use crate::paper::runs::ROW;
 use crate::random::Random;
 use original::glyphs::Glyph;
 use original::terms::Setup;
@@ -160,8 +161,8 @@ fn text(random: &mut Random, few: u64, count: usize) -> Vec<Glyph> {
 fn counts(random: &mut Random) -> [usize; 2] {
     match random.below(300) {
         0..=8 => {
-            // Near 1,024, with room for some growths.
-            let whole = 1024 - random.pick(&[0, 1, 2, 3, 4, 5, 7, 9, 14]);
+            // Near the limit, with room for some growths.
+            let whole = ROW - random.pick(&[0, 1, 2, 3, 4, 5, 7, 9, 14]);
             let done = random.pick(&[0, 1, 500, whole - 1, whole - 5]).min(whole - 1);
             [done, whole - done]
         }

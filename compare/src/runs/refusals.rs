@@ -2,7 +2,8 @@
 //! each two numbers that follow one another in its order.
 use super::corners::{glyphs, plain};
 use super::{Case, STALE};
-use crate::paper::runs::ROW;
+use crate::paper::runs::{ROW, ROW_WORDS};
+use crate::paper::WORDS;
 
 /// A run that is refused, by its number.
 pub struct Refused {
@@ -14,7 +15,7 @@ pub struct Refused {
 
 /// Lengths of a row that aren't a run's: none, a glyph less, not whole glyphs, a
 /// glyph more.
-const LENGTHS: [usize; 5] = [0, 4092, 4095, 4097, 4100];
+const LENGTHS: [usize; 5] = [0, ROW_WORDS - WORDS, ROW_WORDS - 1, ROW_WORDS + 1, ROW_WORDS + WORDS];
 
 /// What all of these are made of, and accepted: id 1 is done, 2 comes, and lookup 0
 /// turns 2 into 4, so that a run that isn't refused shows in the text.

@@ -9,7 +9,7 @@
 //! The six in the second line are lists, each a number of words and those words:
 //! places in the row that comes, pairs of mark sets, the book, pairs of records,
 //! the words of what is done and of what comes from the cursor on. So d is a
-//! quarter of the fifth number and idx 1,024 less a quarter of the sixth. The
+//! quarter of the fifth number and idx the row's limit less a quarter of the sixth. The
 //! third line is the answer: 0, 8, 9 or 10; as many positions as the count says;
 //! and the text after the run, as two such lists. Every other cell of both rows
 //! holds 0, before the run and after it.
@@ -32,7 +32,7 @@
 use super::{Line, List};
 use crate::differences;
 use crate::ours::CRan;
-use crate::paper::runs::{faults, By, FAULTS, NAMES};
+use crate::paper::runs::{faults, By, FAULTS, NAMES, ROW};
 use crate::random::Random;
 use crate::runs::corners::{at_the_limit, beside_the_text, cards};
 use crate::runs::draw::{draw_book, draw_case, draw_setup, style, Style};
@@ -147,7 +147,7 @@ fn draw_filled(writer: &mut Writer) {
     for _ in 0..LATER_DRAWS {
         for case in drawn(random) {
             let Ok(ran) = case.paper(|_| ()) else { continue };
-            let [before, after] = [1024 - case.idx, ran.text.len() - ran.cursor];
+            let [before, after] = [ROW - case.idx, ran.text.len() - ran.cursor];
             let length = ran.text.len().cmp(&(case.d + before));
             let sort = (ran.ending as u8, length, after.cmp(&before));
             let parted = ran.cursor > 0 && after > 0;
@@ -160,7 +160,7 @@ fn draw_filled(writer: &mut Writer) {
 
 /// About how many words a line has.
 fn about(case: &Case) -> usize {
-    let glyphs = case.d + (1024 - case.idx);
+    let glyphs = case.d + (ROW - case.idx);
     40 + case.book.len() + case.records.len() + case.matched.count + 8 * glyphs
 }
 

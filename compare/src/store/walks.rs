@@ -39,7 +39,7 @@ const LATER_SEED: u64 = 4;
 const MATCHES: usize = 60;
 const REFUSED: u32 = 9;
 /// A walk over each of these, in each direction.
-const LONG: [usize; 4] = [40, 64, 150, 1024];
+const LONG: [usize; 4] = [40, 64, 150, crate::paper::MOST_GLYPHS];
 
 pub fn write(list: &mut List) {
     let random = &mut Random::new(SEED);

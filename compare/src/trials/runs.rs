@@ -251,7 +251,7 @@ fn refusals() -> Vec<RunTrial> {
         }),
         RunTrial::answered("a refused run clears the cells", |case, after| {
             if !after.is_accepted() {
-                let from = (4 * case.d.min(1024)).min(after.done.len());
+                let from = (4 * case.d.min(crate::paper::runs::ROW)).min(after.done.len());
                 after.done[from..].fill(0);
             }
         }),
