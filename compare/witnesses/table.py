@@ -692,6 +692,9 @@ TABLE = {
         ),
     },
     "run_step": {
+        "a_parted_run_says_what_is_left_as_spent": (
+            k11(), K11_ANSWER, f"Finished, spent 0, d 4, idx {LIMIT}, 4 at [0, 1, 2, 3], text 1 2 2 3",
+        ),
         "a_position_at_the_texts_length_is_taken": (
             run([1], lookup(KIND_2, 1, 0), [(0, 0), (0, 0)]),
             f"Finished, spent 1, d 0, idx {LIMIT}, 1 at [0], text of 0 glyphs",
@@ -765,6 +768,11 @@ TABLE = {
             "refused for its Match, no word changed",
             f"Finished, spent 1, d 4, idx {LIMIT}, 3 at [1, 2, 3], text 1 2 2 3",
         ),
+        "a_position_at_the_end_is_run": (
+            k11(end=LIMIT - 1),
+            "refused for its Match, no word changed",
+            f"Finished, spent 1, d 3, idx {LIMIT - 1}, 4 at [0, 1, 2, 3], text 1 2 2 3",
+        ),
         "a_run_looks_at_the_limits_before_the_cursor": (
             k11(idx=LIMIT, depth=65), "refused for its Cursor, no word changed", "refused for its Limits, no word changed",
         ),
@@ -776,6 +784,11 @@ TABLE = {
         "odd_records_are_run": (k11(records=[1, 0, 1]), "refused for its Shape, no word changed", K11_ANSWER),
         "seventeen_records_are_run": (
             k11(records=[(1, 0)] + [(9, 0)] * 16), "refused for its Shape, no word changed", K11_ANSWER,
+        ),
+        "two_equal_positions_are_run": (
+            k11(places=[LIMIT - 3, LIMIT - 3, LIMIT - 1]),
+            "refused for its Match, no word changed",
+            f"Finished, spent 1, d 3, idx {LIMIT}, 3 at [0, 0, 2], text 1 2 3",
         ),
     },
     "run_calls": {
