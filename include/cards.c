@@ -26,7 +26,7 @@ static void card(const char *name, const char *says) {
 /* Numbers go by the header's names, so that a card stays as it is where they change. */
 enum {
     ROW_3 = CB_WORDS * 3, /* words of three glyphs */
-    CURSOR = CB_LIMIT - 3 /* where three glyphs that end a row begin: 1,021 in document 01 */
+    CURSOR = CB_LIMIT - 3 /* where three glyphs that end a row begin */
 };
 
 static const uint32_t MARK = CB_WORD_2(0, 0, CB_PROPS_MARK);

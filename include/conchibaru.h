@@ -31,7 +31,7 @@ extern "C" {
 
 /* ---- glyphs, rows, texts
  *
- * A row is a slice of words, four to a glyph, of at most 1,024 glyphs. Any four words are a legal glyph:
+ * A row is a slice of words, four to a glyph, of at most CB_LIMIT glyphs. Any four words are a legal glyph:
  *
  *     uint32_t word[4] = {id, mask, CB_WORD_2(flags, syllable, props), CB_WORD_3(ligature id, component, count, count in ligation)};
  *
@@ -239,7 +239,7 @@ bool cb_budget_alloc(uint64_t left[2], uint64_t count, uint64_t size);
 /* ---- questions on the glyph at a place of a row
  *
  * `context` chooses the context matcher, else it is the input matcher. Refused by 1 where the row isn't whole glyphs or is over
- * 1,024, where the place isn't in it, and where mark sets are odd.
+ * CB_LIMIT, where the place isn't in it, and where mark sets are odd.
  */
 
 /* May the glyph be skipped?
@@ -315,14 +315,14 @@ cb_placed cb_match_backtrack(const uint32_t *done, size_t done_len, size_t d, co
  *     uint16_t book[8] = {2, 0, 0, 4, 2, 2, 2, 2};  cb_book_reads(book, 8);    true: lookup 0 turns 2 into 2, 2 */
 bool cb_book_reads(const uint16_t *book, size_t book_len);
 
-/* Applies records to a text. Both rows have 4,096 words: of `done` the first d glyphs count, of `coming` those from idx to its end.
- * The match is one that cb_match_input made over the same rows, with len 1,024. At most `allowance` nested lookups are tried, at most
+/* Applies records to a text. Both rows have CB_RUN_WORDS words: of `done` the first d glyphs count, of `coming` those from idx to its end.
+ * The match is one that cb_match_input made over the same rows, with len CB_LIMIT. At most `allowance` nested lookups are tried, at most
  * `depth` deep. Refused, with no word changed: 1, 2, 12, 11, 7, in this order. Else the ending: Finished; Short, a record was due at
- * allowance 0; Deep, at depth 0; Full, a result would pass 1,024 glyphs. Then both rows hold the text and 0 elsewhere, and positions
+ * allowance 0; Deep, at depth 0; Full, a result would pass CB_LIMIT glyphs. Then both rows hold the text and 0 elsewhere, and positions
  * count from the text's first glyph. On x86-64 it takes 1 KB of stack for each level of depth, 70 KB for all 64: measured by
  * link/stack.c, which link/run runs, and not promised.
  *     ids 1, 2, 3 end coming, m matched them whole, and records are {1, 0}
- *     cb_run(done, 4096, coming, 4096, 0, 1021, NULL, 0, book, 8, records, 2, m, switches, 1, 1);
+ *     cb_run(done, CB_RUN_WORDS, coming, CB_RUN_WORDS, 0, CB_LIMIT - 3, NULL, 0, book, 8, records, 2, m, switches, 1, 1);
  *                                           number 0, spent 1, d 4, count 4, positions 0, 1, 2, 3; done has ids 1, 2, 2, 3 (K11) */
 cb_ran cb_run(uint32_t *done, size_t done_len, uint32_t *coming, size_t coming_len, size_t d, size_t idx, const uint16_t *sets,
               size_t sets_len, const uint16_t *book, size_t book_len, const uint16_t *records, size_t records_len,

@@ -4,6 +4,7 @@
 //! said here.
 use crate::matches::{plain, Case, Question};
 use crate::ours::{Answer, CSaid, CWalked, Row, Sign};
+use crate::paper::MOST_GLYPHS;
 use crate::{runs, walks};
 use original::glyphs::Glyph;
 use original::hook::Mode;
@@ -104,7 +105,7 @@ pub const FULL: Difference = Difference {
         original: "0, spent 1, positions [0, 1, 2, 3], 1025 glyphs, 4 done",
         ours: "10, spent 1, positions [0, 1, 2], 1024 glyphs, 1 done",
         ask: Run(|| {
-            let ids = [&[1, 2, 3][..], &[3; 1021]].concat();
+            let ids = [&[1, 2, 3][..], &[3; MOST_GLYPHS - 3]].concat();
             (growing(&ids, &[1, 0], 1000), Mode::Raw)
         }),
     }],
@@ -218,7 +219,7 @@ pub const DAMAGED_WALKS: Difference = Difference {
             input: "forward from 1,023 over 1,025 glyphs with all words 0",
             original: "CWalked { number: 4, ran_out: 0, place: 1025 }",
             ours: "CWalked { number: 1, ran_out: 0, place: 0 }",
-            ask: Forward(|| (vec![[0; 4]; 1025], 1023, Test::None)),
+            ask: Forward(|| (vec![[0; 4]; MOST_GLYPHS + 1], MOST_GLYPHS - 1, Test::None)),
         },
     ],
 };
@@ -333,7 +334,7 @@ pub const DAMAGED_MATCHES: Difference = Difference {
             input: "input, no values, 1,025 glyphs with all words 0, cursor 1,024",
             original: "0, end 1025, total 1, count 1, [1024]",
             ours: "1, end 0, total 0, count 0, []",
-            ask: Match(|| (Case { idx: 1024, ..over(&[], &[[0; 4]; 1025]) }, input(&[]))),
+            ask: Match(|| (Case { idx: MOST_GLYPHS, ..over(&[], &[[0; 4]; MOST_GLYPHS + 1]) }, input(&[]))),
         },
     ],
 };

@@ -723,7 +723,7 @@ impl Comparison for Asker {
         for _ in 0..steps / 150 {
             long_text(self, random);
         }
-        let plenty = draw::row(random, 1027);
+        let plenty = draw::row(random, MOST_GLYPHS + 3);
         for _ in 0..steps / 50 {
             damaged(self, random, &plenty);
         }

@@ -11,6 +11,9 @@ use original::terms::{May, Role, Setup, Test, Verdict, Walked};
 pub const WORDS: usize = 4;
 pub const MOST_GLYPHS: usize = 1024;
 
+// Both sides are asked for one limit.
+const _: () = assert!(MOST_GLYPHS == original::hook::MOST_GLYPHS);
+
 const IGNORABLE: u32 = 1;
 const ZWNJ: u32 = 2;
 const ZWJ: u32 = 4;

@@ -577,7 +577,7 @@ impl Comparison for Asker {
         while made < steps {
             made += random_row(self, random);
         }
-        let plenty = draw::row(random, 1027);
+        let plenty = draw::row(random, MOST_GLYPHS + 3);
         for _ in 0..steps / 50 {
             damaged(self, random, &plenty);
         }

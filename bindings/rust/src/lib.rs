@@ -15,7 +15,7 @@
 //! - **Names are harfrust's** where it has one: [`match_input`], [`match_lookahead`], [`match_backtrack`], [`may_skip`],
 //!   [`may_match`], [`SetDigest`], [`RuleSetDigest`], [`Budget`]. Its `SkippingIterator` is [`forward`] and [`backward`], its
 //!   `MatchResult` is [`Verdict`], its `ApplyContext` is a [`Lookup`] beside a [`Text`], and its `apply_lookup` is [`run`].
-//! - **A row** is a slice of words, four to a glyph ([`Glyph`]), of at most 1,024 glyphs. Places count glyphs.
+//! - **A row** is a slice of words, four to a glyph ([`Glyph`]), of at most [`LIMIT`] glyphs. Places count glyphs.
 //!
 //! ```
 //! use conchibaru::{match_input, row, Glyph, InputMatch, Lookup, Test, Text};

@@ -28,8 +28,8 @@ use std::fmt;
 #[non_exhaustive]
 #[derive(Clone, Copy, Debug, PartialEq, Eq, Hash)]
 pub enum Refusal {
-    /// 1: a row that isn't whole glyphs, is over 1,024 or has the wrong length for a run; `d`, `len`, a place or a start past its
-    /// row; odd mark sets or records; over 16 records; a run's text over 1,024 glyphs.
+    /// 1: a row that isn't whole glyphs, is over [`LIMIT`](crate::LIMIT) or has the wrong length for a run; `d`, `len`, a place or
+    /// a start past its row; odd mark sets or records; over 16 records; a run's text over that limit.
     Shape,
     /// 2: the cursor at or past `len`.
     Cursor,

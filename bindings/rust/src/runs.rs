@@ -60,7 +60,7 @@ pub enum Ending {
     Short = 8,
     /// A record was due at depth 0.
     Deep = 9,
-    /// A result would have passed 1,024 glyphs, and nothing of it was written.
+    /// A result would have passed [`LIMIT`] glyphs, and nothing of it was written.
     Full = 10,
 }
 

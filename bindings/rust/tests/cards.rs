@@ -112,7 +112,7 @@ fn each_field_of_what_is_sought_is_read() {
 
 // ---- runs
 
-/// Where three glyphs that end a row begin: 1,021 in document 01.
+/// Where three glyphs that end a row begin.
 const CURSOR: usize = LIMIT - 3;
 const DOUBLES: [u16; 8] = [2, 0, 0, 4, 2, 2, 2, 2];
 const DELETES: [u16; 6] = [2, 0, 0, 2, 2, 0];

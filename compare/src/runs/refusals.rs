@@ -176,7 +176,7 @@ fn two_at_once() -> Vec<Refused> {
     let lost: Change = |case| case.matched.number = 4;
     let nowhere: Change = |case| case.matched.count = 0;
     let both: [(u8, Change, Change); 12] = [
-        (1, |case| case.done.truncate(4092), cursor),
+        (1, |case| case.done.truncate(ROW_WORDS - 4), cursor),
         (1, |case| drop(case.coming.drain(..4)), cursor),
         (1, |case| case.d = ROW + 1, cursor),
         (1, |case| case.setup.sets = vec![0], cursor),

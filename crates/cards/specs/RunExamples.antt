@@ -3,9 +3,10 @@
 -- are included.
 use mathlib.Core.Bool.{false}
 use mathlib.Core.List.{List, [], _∷_, _++_, map}
-use Prim.Native.Nat.{ℕ}
+use Prim.Native.Nat.{ℕ, _-_}
 use lib.ListN.{length, replicate}
 use Rattle.glyph.specs.declared.Glyph.{Glyph}
+use Rattle.glyph.specs.Glyph.{limit}
 use Rattle.glyph.specs.Signs.{glyph}
 use Rattle.matching.specs.declared.InputAnswer.{InputAnswer}
 use Rattle.matching.specs.declared.InputMatch.{InputMatch}
@@ -212,7 +213,7 @@ levelGoesOn = record {
 abbrev pub fullBelow : Card
 fullBelow = record {
   given = ran (record {
-    text = letters (1 ∷ 2 ∷ replicate 1021 7);
+    text = letters (1 ∷ 2 ∷ replicate (limit - 3) 7);
     positions = 0 ∷ 1 ∷ [];
     end = 2;
     records = at 0 0 ∷ at 0 2 ∷ [];
@@ -220,7 +221,7 @@ fullBelow = record {
     allowance = 9;
     depth = 9;
   });
-  wanted = leaves (record { ending = 10; spent = 3; ids = 1 ∷ 1 ∷ 2 ∷ replicate 1021 7; cursor = 1; count = 3; positions = 0 ∷ 1 ∷ 2 ∷ [] });
+  wanted = leaves (record { ending = 10; spent = 3; ids = 1 ∷ 1 ∷ 2 ∷ replicate (limit - 3) 7; cursor = 1; count = 3; positions = 0 ∷ 1 ∷ 2 ∷ [] });
 }
 
 -- a chain doubles 1 with the last of the allowance: both levels stop at their next record, and move to their ends with a position more

@@ -19,7 +19,7 @@ use Rattle.cards.specs.Signs.{letter}
 abbrev empty : List ℕ
 empty = replicate (words * limit) 0
 
--- where three glyphs that end the row begin: 1,021 in 01
+-- where three glyphs that end the row begin
 abbrev cursor : ℕ
 cursor = limit - 3
 

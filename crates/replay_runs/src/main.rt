@@ -14,6 +14,7 @@ use run_calls::RunAnswer;
 use stored::Replayed;
 use stored::Span;
 use stored::after;
+use stored::least;
 use stored::list;
 use stored::listed;
 use stored::more;
@@ -21,9 +22,8 @@ use stored::say;
 use stored::size;
 use stored::slots_are;
 use stored::word;
-ghost use Prim.Native.Nat.{_≤_};
 
-// The words of a run's row, and room for one that has a glyph more.
+// The words of a run's row, and room for one that has a glyph more: a stored row has at most as many words as there is room.
 const ROW: usize = glyph::WORDS * glyph::LIMIT;
 
 const ROOM: usize = ROW + glyph::WORDS;
@@ -173,13 +173,6 @@ fn less(a: usize, b: usize) -> usize {
     if b <= a { a - b } else { 0 }
 }
 
-// A row has at most as many words as there is room.
-fn held(n: usize) -> usize
-    ensures { λ r. ⌜ r ≤ 4100 ⌝ }
-{
-    if n < ROOM { n } else { ROOM }
-}
-
 fn opening_at(words: &[u32], at: usize) -> Opening {
     if word(words, at) % 100 == 51 {
         Opening {
@@ -256,10 +249,10 @@ fn asked(
 ) -> Answered {
     let mut done = row_room(o.before);
     put(&mut done, 0, listed(words, l.done));
-    let n = held(o.done);
+    let n = least(o.done, ROOM);
     let mut coming = row_room(o.before);
     let ahead = listed(words, l.coming);
-    let m = held(o.coming);
+    let m = least(o.coming, ROOM);
     put(&mut coming, less(m, ahead.len()), ahead);
     ran(
         words,

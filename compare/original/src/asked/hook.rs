@@ -51,7 +51,8 @@ thread_local! {
 
 pub const MANY: i32 = 1 << 30;
 pub const DEEP_ENOUGH: usize = 1 << 20;
-const MOST_GLYPHS: usize = 1024;
+/// The limit of a text, which the original hasn't.
+pub const MOST_GLYPHS: usize = 1024;
 const LIGATURE: u32 = 4;
 
 pub struct Before {

@@ -6,7 +6,7 @@
 //! from in a half word that matching doesn't read; what is written takes its
 //! word 1 along, and words 2 and 3 are those of the glyph that it came from.
 use super::glyphs::{named_info, Glyph, Names};
-use super::hook::{Mode, PutBack, DEEP_ENOUGH, HOOK, MANY};
+use super::hook::{Mode, PutBack, DEEP_ENOUGH, HOOK, MANY, MOST_GLYPHS as ROW};
 use super::terms::Setup;
 use crate::budget::Budget;
 use crate::buffer::{Buffer, GlyphInfo, HB_BUFFER_CLUSTER_LEVEL_CHARACTERS};
@@ -20,7 +20,6 @@ use read_fonts::tables::layout::SequenceLookupRecord;
 use std::rc::Rc;
 use std::sync::Arc;
 
-const ROW: usize = 1024;
 /// Props that mean something to the original alone.
 const ITS_OWN: u32 = 0x70;
 
