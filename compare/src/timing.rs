@@ -6,18 +6,16 @@
 //! change which is first; the best and the median of the rounds are printed. The
 //! same rows are used over and over, so they are warm: in a cache, every branch
 //! seen before. Where it is said, rows are cold.
+mod runs;
 mod walks;
 
 use crate::matches::Case;
 use crate::ours::{self, CMatched};
 use crate::random::Random;
-use crate::runs;
 use crate::tape::{lines, program};
 use original::digests::{masks, SetDigest};
 use original::glyphs::Glyph;
-use original::hook::Mode;
 use original::matches::{with_text, Held};
-use original::runs::{Again, Book, Run};
 use original::terms::{Call, Setup};
 use std::fs::File;
 use std::hint::black_box;
@@ -42,8 +40,10 @@ struct Times(Vec<f64>);
 
 impl Times {
     fn take(&mut self, walks: u32, glyphs: usize, walk: &mut impl FnMut()) {
-        let took = time(walks, walk).as_nanos() as f64;
-        self.0.push(took / (f64::from(walks) * glyphs as f64));
+        self.push(walks, glyphs, time(walks, walk));
+    }
+    fn push(&mut self, walks: u32, glyphs: usize, took: Duration) {
+        self.0.push(took.as_nanos() as f64 / (f64::from(walks) * glyphs as f64));
     }
     fn best_and_median(mut self) -> [f64; 2] {
         self.0.sort_by(f64::total_cmp);
@@ -68,16 +68,27 @@ fn line(
     mut original: impl FnMut(),
     mut ours: impl FnMut(),
 ) {
-    let slower = time(10, &mut original).max(time(10, &mut ours)) / 10;
+    line_by(name, rounds, glyphs, |n| time(n, &mut original), |n| time(n, &mut ours));
+}
+
+/// The same, where each side says how long so many times took it.
+fn line_by(
+    name: &str,
+    rounds: u32,
+    glyphs: usize,
+    mut original: impl FnMut(u32) -> Duration,
+    mut ours: impl FnMut(u32) -> Duration,
+) {
+    let slower = original(10).max(ours(10)) / 10;
     let walks = (ROUND.as_nanos() / slower.as_nanos().max(1)).max(1) as u32;
     let (mut theirs, mut our) = (Times(vec![]), Times(vec![]));
     for round in 0..rounds {
         if round % 2 == 0 {
-            theirs.take(walks, glyphs, &mut original);
-            our.take(walks, glyphs, &mut ours);
+            theirs.push(walks, glyphs, original(walks));
+            our.push(walks, glyphs, ours(walks));
         } else {
-            our.take(walks, glyphs, &mut ours);
-            theirs.take(walks, glyphs, &mut original);
+            our.push(walks, glyphs, ours(walks));
+            theirs.push(walks, glyphs, original(walks));
         }
     }
     print_line(name, theirs, our);
@@ -120,12 +131,7 @@ pub fn run(rounds: u32, place: &str) -> i32 {
     for between in [0, 1, 4] {
         matches(rounds, between);
     }
-    println!("nanoseconds a run of 16 records over 1,000 glyphs, both rows copied back each time");
-    for spread in [1, 62] {
-        for nested in [false, true] {
-            nested_runs(rounds, spread, nested);
-        }
-    }
+    runs::run(rounds);
     tape();
     0
 }
@@ -234,67 +240,6 @@ fn spent_by_processes() -> f64 {
     unsafe { getrusage(CHILDREN, &mut usage) };
     let [user, user_micros, system, system_micros, ..] = usage;
     (user + system) as f64 * 1e3 + (user_micros + system_micros) as f64 / 1e3
-}
-
-/// A run of 16 records, at places that lie `spread` apart. Each turns a glyph
-/// into another, or is a chain in which one grows or one of the next is lost.
-fn nested_runs(rounds: u32, spread: usize, nested: bool) {
-    // 0: 7 into 8. 1: 7 into 7, 7. 2: 9 into nothing. 3: 7, 9 with (0, 1), (2, 2). 4: 7, 9 with (1, 2).
-    let book = [
-        &[1, 0, 0, 2, 7, 8][..],
-        &[2, 0, 0, 4, 7, 2, 7, 7],
-        &[2, 0, 0, 2, 9, 0],
-        &[3, 0, 0, 10, 7, 0, 1, 9, 0, 2, 0, 1, 2, 2],
-        &[3, 0, 0, 8, 7, 0, 1, 9, 0, 1, 1, 2],
-    ]
-    .concat();
-    let mut text = vec![PLAIN; 1000];
-    let places: Vec<usize> = (0..16).map(|i| i * spread).collect();
-    places.iter().for_each(|&place| text[place][0] = SOUGHT);
-    let lookup = |i: u16| if !nested { 0 } else { 3 + i % 2 };
-    // From the last place to the first, so that losses don't move what is to come.
-    let records: Vec<u16> = (0..16).rev().flat_map(|i| [i, lookup(i)]).collect();
-    let setup = Setup { mask: 1, ..Setup::default() };
-    let end = places[15] + 1;
-    let mut case = runs::Case::new(setup, book, [&[], &text], records, &places, end);
-    case.allowance = 1000;
-    case.depth = 8;
-    let book = Book::new(&case.setup, &case.book);
-    let positions = &case.matched.positions[..16];
-    let (records, end, depth) = (&case.records, case.matched.end, case.depth);
-    let run = Run {
-        records,
-        allowance: 1000,
-        depth,
-        positions,
-        end,
-        done: &[],
-        coming: &text,
-        mode: Mode::Raw,
-    };
-    let mut again = Again::new(&book, run).expect("the original holds this text");
-    let (mut done, mut coming) = (case.done.clone(), case.coming.clone());
-    let mut ours = || {
-        done.copy_from_slice(&case.done);
-        coming.copy_from_slice(&case.coming);
-        let ran = ours::run(black_box(&case), &mut done, &mut coming);
-        assert_eq!(ran.number, 0, "ours finishes");
-        (ran.d, ran.count, ran.spent)
-    };
-    let (d, count, spent) = ours();
-    assert_eq!(again.run(), (d, count), "both do the same");
-    let far = if spread == 1 { "side by side" } else { "over all the text" };
-    line(
-        &format!("{far}, {spent} lookups tried"),
-        rounds,
-        1,
-        || {
-            black_box(again.run());
-        },
-        || {
-            black_box(ours());
-        },
-    );
 }
 
 /// The three matchers over a text in which `between` marks are passed over

@@ -4,6 +4,7 @@
 use super::{line, print_line, Times, GLYPHS, MARK, PLAIN, SEED, SOUGHT};
 use crate::draw;
 use crate::ours::{self, Sign};
+use crate::paper::MOST_GLYPHS;
 use crate::random::Random;
 use original::glyphs::Glyph;
 use original::terms::{Role, Setup, Test};
@@ -103,7 +104,7 @@ pub fn run(rounds: u32) {
     }
     println!("nanoseconds a glyph, rows warm");
     for text in [marks(), other_marks(), ignorables()] {
-        for glyphs in [64, 256, GLYPHS] {
+        for glyphs in [64, 256, GLYPHS, MOST_GLYPHS] {
             over(&text, glyphs, |sides| sides.warm(&format!("{glyphs}, {}", text.name), rounds));
         }
     }

@@ -234,7 +234,7 @@ impl<'a> Book<'a> {
 }
 
 /// For timing: a run that is made again and again, from a text that is copied
-/// back each time. The hooks only count.
+/// back before each. The hooks only count.
 pub struct Again<'b, 'a> {
     book: &'b Book<'a>,
     infos: Vec<GlyphInfo>,
@@ -286,9 +286,8 @@ impl<'b, 'a> Again<'b, 'a> {
         })
     }
 
-    /// Answers d and the count.
-    #[inline(never)]
-    pub fn run(&mut self) -> (usize, usize) {
+    /// The text as it was.
+    pub fn copy_back(&mut self) {
         let buffer = &mut self.buffer;
         buffer.info[..ROW].copy_from_slice(&self.infos);
         buffer.have_output = true;
@@ -297,6 +296,12 @@ impl<'b, 'a> Again<'b, 'a> {
         buffer.idx = self.idx;
         buffer.out_len = self.d;
         buffer.out_info_mut()[..ROW].copy_from_slice(&self.out);
+    }
+
+    /// Answers d and the count.
+    #[inline(never)]
+    pub fn run(&mut self) -> (usize, usize) {
+        let buffer = &mut self.buffer;
         buffer.max_ops = MANY;
         buffer.successful = true;
         let setup = self.book.setup;
