@@ -17,7 +17,7 @@
 #define CONCHIBARU_H
 
 /* The second number moves where a user must change something, the third where not; docs/landings says what. */
-#define CB_VERSION "0.3.0"
+#define CB_VERSION "0.4.0"
 
 #include <stddef.h>
 #include <stdint.h>
@@ -41,8 +41,8 @@ extern "C" {
  */
 enum {
     CB_WORDS = 4,         /* words a glyph */
-    CB_LIMIT = 1024,      /* glyphs a row, at most */
-    CB_RUN_WORDS = 4096,  /* words of each row of a run, just as many */
+    CB_LIMIT = 2048,      /* glyphs a row, at most */
+    CB_RUN_WORDS = 8192,  /* words of each row of a run, just as many */
     CB_SLOTS = 64,        /* positions of a match, at most: MAX_CONTEXT_LENGTH */
     CB_MAX_DEPTH = 64,    /* depth of a run, at most: MAX_NESTING_LEVEL */
     CB_MAX_ALLOWANCE = 2147483647

@@ -99,11 +99,11 @@ pub const ALLOWANCE_OF_TRIES: Difference = Difference {
 };
 
 pub const FULL: Difference = Difference {
-    heading: "A text never passes 1,024 glyphs",
+    heading: "A text never passes 2,048 glyphs",
     examples: &[Example {
-        input: "run over 1,024 glyphs of which one grows, without the hook",
-        original: "0, spent 1, positions [0, 1, 2, 3], 1025 glyphs, 4 done",
-        ours: "10, spent 1, positions [0, 1, 2], 1024 glyphs, 1 done",
+        input: "run over 2,048 glyphs of which one grows, without the hook",
+        original: "0, spent 1, positions [0, 1, 2, 3], 2049 glyphs, 4 done",
+        ours: "10, spent 1, positions [0, 1, 2], 2048 glyphs, 1 done",
         ask: Run(|| {
             let ids = [&[1, 2, 3][..], &[3; MOST_GLYPHS - 3]].concat();
             (growing(&ids, &[1, 0], 1000), Mode::Raw)
@@ -216,8 +216,8 @@ pub const DAMAGED_WALKS: Difference = Difference {
             ask: Forward(|| (vec![], 1, Test::None)),
         },
         Example {
-            input: "forward from 1,023 over 1,025 glyphs with all words 0",
-            original: "CWalked { number: 4, ran_out: 0, place: 1025 }",
+            input: "forward from 2,047 over 2,049 glyphs with all words 0",
+            original: "CWalked { number: 4, ran_out: 0, place: 2049 }",
             ours: "CWalked { number: 1, ran_out: 0, place: 0 }",
             ask: Forward(|| (vec![[0; 4]; MOST_GLYPHS + 1], MOST_GLYPHS - 1, Test::None)),
         },
@@ -331,10 +331,12 @@ pub const DAMAGED_MATCHES: Difference = Difference {
             ask: Match(|| (Case { len: 2, ..over(&[], &[SEVEN]) }, input(&[]))),
         },
         Example {
-            input: "input, no values, 1,025 glyphs with all words 0, cursor 1,024",
-            original: "0, end 1025, total 1, count 1, [1024]",
+            input: "input, no values, 2,049 glyphs with all words 0, cursor 2,048",
+            original: "0, end 2049, total 1, count 1, [2048]",
             ours: "1, end 0, total 0, count 0, []",
-            ask: Match(|| (Case { idx: MOST_GLYPHS, ..over(&[], &[[0; 4]; MOST_GLYPHS + 1]) }, input(&[]))),
+            ask: Match(|| {
+                (Case { idx: MOST_GLYPHS, ..over(&[], &[[0; 4]; MOST_GLYPHS + 1]) }, input(&[]))
+            }),
         },
     ],
 };

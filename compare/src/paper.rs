@@ -9,7 +9,7 @@ use original::terms::{May, Role, Setup, Test, Verdict, Walked};
 // ---- "A glyph in four words"
 
 pub const WORDS: usize = 4;
-pub const MOST_GLYPHS: usize = 1024;
+pub const MOST_GLYPHS: usize = 2048;
 
 // Both sides are asked for one limit.
 const _: () = assert!(MOST_GLYPHS == original::hook::MOST_GLYPHS);

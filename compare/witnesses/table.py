@@ -332,6 +332,9 @@ TABLE = {
         "a_copied_glyph_is_one_word_four_times": (call("copied", [5, 1, 0, 0], 1), "[5, 1, 0, 0]", "[5, 5, 5, 5]"),
         "a_glyph_counts_as_three_words": (said("glyph::count(&[0; 12])"), "3", "4"),
         "a_pair_is_glyph_and_set": (said("glyph::in_set(&[3, 9], 3, 9)"), "true", "false"),
+        "a_row_over_half_the_limit_is_refused": (
+            match_input([0] * (LIMIT // 2 + 1), [], length=1), "Matched { end: 1, total: 1 }, 1 at [0]", "Refused(Shape), 0 at []",
+        ),
         "a_row_over_the_limit_is_taken": (
             match_input([0] * (LIMIT + 1), [], length=1), "Refused(Shape), 0 at []", "Matched { end: 1, total: 1 }, 1 at [0]",
         ),
@@ -578,6 +581,11 @@ TABLE = {
             k11(d=LIMIT + 1, idx=LIMIT + 1, places=[LIMIT - 3, LIMIT - 2, LIMIT - 1]),
             "refused for its Shape, no word changed",
             "refused for its Cursor, no word changed",
+        ),
+        "full_is_judged_at_half_the_limit": (
+            run([5] * (LIMIT // 2), lookup(KIND_2, 5, 2, 5, 5), [(0, 0)], places=[LIMIT // 2], end=LIMIT // 2 + 1),
+            f"Finished, spent 1, d 2, idx {LIMIT // 2 + 1}, 2 at [0, 1], text of {LIMIT // 2 + 1} glyphs",
+            f"Full, spent 1, d 0, idx {LIMIT // 2}, 1 at [0], text of {LIMIT // 2} glyphs",
         ),
         "full_is_judged_one_glyph_late": (
             run([5] * LIMIT, lookup(KIND_2, 5, 2, 5, 5), [(0, 0)], places=[0], end=1),

@@ -4,7 +4,7 @@
 pub const WORDS: usize = 4;
 
 /// Glyphs a row, at most.
-pub const LIMIT: usize = 1024;
+pub const LIMIT: usize = 2048;
 
 /// Bits of a glyph's flags.
 pub mod flags {

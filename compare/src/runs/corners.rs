@@ -32,7 +32,9 @@ pub fn cards() -> Vec<Case> {
 }
 
 /// Texts that grow to the limit exactly and no further: Full at the top, and
-/// Full below, after which positions are still repaired.
+/// Full below, after which positions are still repaired. And one that has the limit's
+/// length, loses a glyph, grows to the limit again and is finished there: the last
+/// three places are its positions.
 pub fn at_the_limit() -> Vec<Case> {
     // 0: 2 into 2, 2. 1: 2, 1 with records (0, 0), (0, 0), (0, 0).
     let book = [2, 0, 0, 4, 2, 2, 2, 2, 3, 0, 0, 12, 2, 0, 1, 1, 0, 3, 0, 0, 0, 0, 0, 0];
@@ -44,7 +46,12 @@ pub fn at_the_limit() -> Vec<Case> {
         Case::new(plain(), book.clone(), [&[], &whole], vec![0, 0, 0, 0, 0, 0], &[0, 1, 3], 5);
     let lower = text(ROW - 2);
     let below = Case::new(plain(), book, [&lower[..0], &lower], vec![0, 1, 1, 0], &[0, 1, 3], 5);
-    [top, below].into_iter().map(|case| Case { allowance: 9, depth: 3, ..case }).collect()
+    // 0: 2 into 2, 2. 1: 3 into nothing.
+    let book = vec![2, 0, 0, 4, 2, 2, 2, 2, 2, 0, 0, 2, 3, 0];
+    let last = [&glyphs(&vec![1; ROW - 3])[..], &glyphs(&[2, 1, 3])];
+    let finished = Case::new(plain(), book, last, vec![2, 1, 0, 0], &[0, 1, 2], 3);
+    let all = [top, below, finished].into_iter();
+    all.map(|case| Case { allowance: 9, depth: 3, ..case }).collect()
 }
 
 /// Cells in neither part that would decide if they were looked at, where their

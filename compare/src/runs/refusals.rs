@@ -13,9 +13,10 @@ pub struct Refused {
     pub case: Case,
 }
 
-/// Lengths of a row that aren't a run's: none, a glyph less, not whole glyphs, a
-/// glyph more.
-const LENGTHS: [usize; 5] = [0, ROW_WORDS - WORDS, ROW_WORDS - 1, ROW_WORDS + 1, ROW_WORDS + WORDS];
+/// Lengths of a row that aren't a run's: none, half as many words, which were a run's
+/// before request Six, a glyph less, not whole glyphs, a glyph more.
+const LENGTHS: [usize; 6] =
+    [0, ROW_WORDS / 2, ROW_WORDS - WORDS, ROW_WORDS - 1, ROW_WORDS + 1, ROW_WORDS + WORDS];
 
 /// What all of these are made of, and accepted: id 1 is done, 2 comes, and lookup 0
 /// turns 2 into 4, so that a run that isn't refused shows in the text.

@@ -19,7 +19,7 @@ use std::collections::BTreeMap;
 use std::fmt::Write;
 
 /// What a replay has room for.
-const MOST_BYTES: usize = 1_048_576;
+const MOST_BYTES: usize = 2_097_152;
 
 /// The stored kinds, and what writes each.
 const KINDS: &[(&str, fn(&mut List))] = &[

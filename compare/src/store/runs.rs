@@ -44,7 +44,7 @@ use std::collections::BTreeSet;
 
 const SEED: u64 = 6;
 /// Where the list ends, so that what follows finds room behind it.
-const ENOUGH: usize = 925_000;
+const ENOUGH: usize = 1_220_000;
 /// The longest line of those that are drawn, and of those that fill the list.
 const LONGEST: usize = 1_500;
 const SHORT: usize = 260;

@@ -14,7 +14,7 @@ words = 4
 
 -- glyphs a row, at most
 unfoldable pub limit : ℕ
-limit = 1024
+limit = 2048
 
 -- word 0: id. Word 1: mask. Word 2, high to low: flag byte, syllable byte, 16 bits of props.
 -- Word 3, high byte to low: ligature id, ligature component, component count, component count in ligation.

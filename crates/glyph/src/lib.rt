@@ -8,7 +8,7 @@ ghost use Rattle.glyph.specs.Sets.{inSet, oddSets};
 
 pub const WORDS: usize = 4;
 
-pub const LIMIT: usize = 1024;
+pub const LIMIT: usize = 2048;
 
 pub struct Glyph {
     pub id: u32,

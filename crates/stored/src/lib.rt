@@ -11,7 +11,7 @@ ghost use Rattle.stored.specs.Stored.{hexDigit, byteAt, wordFrom, stored
 ghost use Rattle.bits.specs.Bits.{every};
 
 // Room for the bytes of a whole list, and for its words.
-pub const TEXT: usize = 1048576;
+pub const TEXT: usize = 2097152;
 
 pub const WORDS_OF_A_LIST: usize = TEXT / 9;
 

@@ -52,7 +52,7 @@ thread_local! {
 pub const MANY: i32 = 1 << 30;
 pub const DEEP_ENOUGH: usize = 1 << 20;
 /// The limit of a text, which the original hasn't.
-pub const MOST_GLYPHS: usize = 1024;
+pub const MOST_GLYPHS: usize = 2048;
 const LIGATURE: u32 = 4;
 
 pub struct Before {
