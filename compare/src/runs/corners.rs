@@ -48,8 +48,8 @@ pub fn at_the_limit() -> Vec<Case> {
     let below = Case::new(plain(), book, [&lower[..0], &lower], vec![0, 1, 1, 0], &[0, 1, 3], 5);
     // 0: 2 into 2, 2. 1: 3 into nothing.
     let book = vec![2, 0, 0, 4, 2, 2, 2, 2, 2, 0, 0, 2, 3, 0];
-    let last = [&glyphs(&vec![1; ROW - 3])[..], &glyphs(&[2, 1, 3])];
-    let finished = Case::new(plain(), book, last, vec![2, 1, 0, 0], &[0, 1, 2], 3);
+    let last = [&glyphs(&vec![1; ROW - 3])[..], &glyphs(&[2, 3, 1])];
+    let finished = Case::new(plain(), book, last, vec![1, 1, 0, 0], &[0, 1, 2], 3);
     let all = [top, below, finished].into_iter();
     all.map(|case| Case { allowance: 9, depth: 3, ..case }).collect()
 }
