@@ -315,12 +315,12 @@ cb_placed cb_match_backtrack(const uint32_t *done, size_t done_len, size_t d, co
  *     uint16_t book[8] = {2, 0, 0, 4, 2, 2, 2, 2};  cb_book_reads(book, 8);    true: lookup 0 turns 2 into 2, 2 */
 bool cb_book_reads(const uint16_t *book, size_t book_len);
 
-/* Applies records to a text. Both rows have CB_RUN_WORDS words: of `done` the first d glyphs count, of `coming` those from idx to its end.
- * The match is one that cb_match_input made over the same rows, with len CB_LIMIT. At most `allowance` nested lookups are tried, at most
- * `depth` deep. Refused, with no word changed: 1, 2, 12, 11, 7, in this order. Else the ending: Finished; Short, a record was due at
- * allowance 0; Deep, at depth 0; Full, a result would pass CB_LIMIT glyphs. Then both rows hold the text and 0 elsewhere, and positions
- * count from the text's first glyph. On x86-64 it takes 1 KB of stack for each level of depth, 70 KB for all 64: measured by
- * link/stack.c, which link/run runs, and not promised.
+/* Applies records to a text. Both rows have CB_RUN_WORDS words: of `done` the first d glyphs count, of `coming` those from idx to its
+ * end. The match is one that cb_match_input made over the same rows, with len CB_LIMIT. At most `allowance` nested lookups are tried,
+ * at most `depth` deep. Refused, with no word changed: 1, 2, 12, 11, 7, in this order. Else the ending: Finished; Short, a record was
+ * due at allowance 0; Deep, at depth 0; Full, a result would pass CB_LIMIT glyphs. Then both rows hold the text and 0 elsewhere, and
+ * positions count from the text's first glyph. On x86-64 it takes 1 KB of stack for each level of depth, 70 KB for all 64: measured
+ * by link/stack.c, which link/run runs, and not promised.
  *     ids 1, 2, 3 end coming, m matched them whole, and records are {1, 0}
  *     cb_run(done, CB_RUN_WORDS, coming, CB_RUN_WORDS, 0, CB_LIMIT - 3, NULL, 0, book, 8, records, 2, m, switches, 1, 1);
  *                                           number 0, spent 1, d 4, count 4, positions 0, 1, 2, 3; done has ids 1, 2, 2, 3 (K11) */

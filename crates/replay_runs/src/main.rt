@@ -14,7 +14,6 @@ use run_calls::RunAnswer;
 use stored::Replayed;
 use stored::Span;
 use stored::after;
-use stored::least;
 use stored::list;
 use stored::listed;
 use stored::more;
@@ -22,8 +21,9 @@ use stored::say;
 use stored::size;
 use stored::slots_are;
 use stored::word;
+ghost use Prim.Native.Nat.{_≤_};
 
-// The words of a run's row, and room for one that has a glyph more: a stored row has at most as many words as there is room.
+// The words of a run's row, and room for one that has a glyph more.
 const ROW: usize = glyph::WORDS * glyph::LIMIT;
 
 const ROOM: usize = ROW + glyph::WORDS;
@@ -173,6 +173,13 @@ fn less(a: usize, b: usize) -> usize {
     if b <= a { a - b } else { 0 }
 }
 
+// A row has at most as many words as there is room.
+fn held(n: usize, room: usize) -> usize
+    ensures { λ r. ⌜ r ≤ room ⌝ }
+{
+    if n < room { n } else { room }
+}
+
 fn opening_at(words: &[u32], at: usize) -> Opening {
     if word(words, at) % 100 == 51 {
         Opening {
@@ -249,10 +256,10 @@ fn asked(
 ) -> Answered {
     let mut done = row_room(o.before);
     put(&mut done, 0, listed(words, l.done));
-    let n = least(o.done, ROOM);
+    let n = held(o.done, ROOM);
     let mut coming = row_room(o.before);
     let ahead = listed(words, l.coming);
-    let m = least(o.coming, ROOM);
+    let m = held(o.coming, ROOM);
     put(&mut coming, less(m, ahead.len()), ahead);
     ran(
         words,

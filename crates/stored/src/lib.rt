@@ -199,7 +199,7 @@ pub fn narrow(words: &[u32], out: &mut [u16]) -> usize
     n
 }
 
-pub fn least(a: usize, b: usize) -> usize
+fn least(a: usize, b: usize) -> usize
     ensures { λ r. ⌜ r ≡ min a b ⌝ }
 {
     if a < b { a } else { b }
