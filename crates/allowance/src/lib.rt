@@ -1,21 +1,23 @@
 // A font's allowance for preparing its lookups: how much work may be done, and how many bytes may be asked for.
+#![tactic(auto)]
+
 ghost use Rattle.std.specs.Prelude.{◌≡◌, ◌-◌, ◌*◌, ◌≤◌, ltb};
 ghost use Rattle.allowance.specs.Allowance.{most, opening, budget_with, was_taken, charge_exhausted, worked, allocated};
 
-#[derive(Drop)]
+#[derive(Clone, Copy)]
 pub struct Budget {
     pub work: u64,
     pub bytes: u64,
 }
 
-#[derive(Drop)]
+#[derive(Clone, Copy)]
 pub enum Charge {
     Taken,
     Exhausted,
 }
 
 // What a charge answers, and what is left after it.
-#[derive(Drop)]
+#[derive(Clone, Copy)]
 pub struct Charged {
     pub charge: Charge,
     pub left: Budget,

@@ -4,6 +4,8 @@
 //
 // Where answers can't be written, the program says so on standard error, once, and then writes no more and reads no more: an answer
 // is told from others by its place alone, and behind a gap each would be taken for another line's.
+#![tactic(auto)]
+
 ghost use Rattle.std.specs.Prelude.{◌≡◌, false, ◌≤◌, ◌<◌, length, take};
 ghost use Rattle.tape_frame.specs.Put.{Puts};
 ghost use Rattle.tape_answer.specs.Tape.{last_answer};
@@ -18,7 +20,7 @@ const SPACE: usize = 65536;
 
 // How far a piece is taken: the place in it, the bytes kept of the line so far, the bytes of answers that were handed to a write, and
 // whether all answers were written.
-#[derive(Drop)]
+#[derive(Clone, Copy)]
 pub struct Part {
     pub at: usize,
     pub kept: usize,
@@ -27,14 +29,14 @@ pub struct Part {
 }
 
 // What is left of what was taken: the bytes kept of the line so far, and whether all answers were written.
-#[derive(Drop)]
+#[derive(Clone, Copy)]
 pub struct Left {
     pub kept: usize,
     pub sent: bool,
 }
 
 // The same of a read, with the bytes that were read: 0 where there are no more.
-#[derive(Drop)]
+#[derive(Clone, Copy)]
 pub struct Turn {
     pub read: usize,
     pub kept: usize,

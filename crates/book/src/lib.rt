@@ -1,6 +1,8 @@
 // A book of lookups in u16 words: its types and definitions, and where a lookup's parts stand.
 // The words are walked once, by `book_index::index_of`. `find_in` is then one look into the table of starts, and a few words of the lookup:
 // its head, and for a chain its four numbers.
+#![tactic(auto)]
+
 ghost use Rattle.std.specs.Prelude.{◌≡◌, ◌≤◌, length};
 ghost use Rattle.book.specs.Book.{most_side};
 ghost use Rattle.book.specs.Places.{counted_at, one_at, many_at, chain_at, kind_at, entry_at, missing, is_chain, size_at, found_in, widened};
@@ -16,14 +18,14 @@ pub const SIDE: usize = 64;
 pub const RECORDS: usize = 16;
 
 // A part of the book's words, `words[from..to]`.
-#[derive(Drop)]
+#[derive(Clone, Copy)]
 pub struct Part {
     pub from: usize,
     pub to: usize,
 }
 
 // Where a chain's parts stand.
-#[derive(Drop)]
+#[derive(Clone, Copy)]
 pub struct ChainParts {
     pub first: u32,
     pub backtrack: Part,
@@ -33,7 +35,7 @@ pub struct ChainParts {
 }
 
 // A lookup and where its parts stand.
-#[derive(Drop)]
+#[derive(Clone, Copy)]
 pub enum Entry {
     One { props: u32, from: u32, to: u32 },
     Many { props: u32, from: u32, ids: Part },
@@ -42,7 +44,7 @@ pub enum Entry {
 }
 
 // Where each lookup of a book that reads begins; unused slots are 0.
-#[derive(Drop)]
+#[derive(Clone, Copy)]
 pub struct Index {
     pub reads: bool,
     pub count: usize,
@@ -224,7 +226,7 @@ fn chain_at(words: &[u16], props: u32, a: usize) -> Entry
     }
 }
 
-#[derive(Drop)]
+#[derive(Clone, Copy)]
 pub enum Counted {
     Is(Part),
     Not,

@@ -1,4 +1,6 @@
 // A book read once, from its first word to its last, into a table of where its lookups begin.
+#![tactic(auto)]
+
 ghost use Rattle.std.specs.Prelude.{◌≡◌};
 ghost use Rattle.book.specs.Book.{read_book, is_read};
 ghost use Rattle.book.specs.Places.{index_of, no_index};

@@ -1,4 +1,6 @@
 // The bench cards that are run and not shown from the definitions. Each line is a card, what was asked, and the answer's number and values.
+#![tactic(auto)]
+
 use matching::{InputAnswer, InputMatch, Terms};
 use verdict::{Settings, Table, Test};
 

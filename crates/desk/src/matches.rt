@@ -11,7 +11,7 @@ use matching::{ContextMatch, InputAnswer, InputMatch};
 
 // 0 with end, total, count and positions; 4 with the extent in `end`; or a refusal's number. Unused slots are 0.
 #[repr(C)]
-#[derive(Drop)]
+#[derive(Clone, Copy)]
 pub struct Matched {
     pub number: u8,
     pub total: u16,
@@ -22,7 +22,7 @@ pub struct Matched {
 
 // 0 with the place, 4 with the extent, or a refusal's number.
 #[repr(C)]
-#[derive(Drop)]
+#[derive(Clone, Copy)]
 pub struct Placed {
     pub number: u8,
     pub place: usize,

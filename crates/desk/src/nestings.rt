@@ -12,7 +12,7 @@ use run_calls::RunAnswer;
 
 // The three switches and the lookup mask. A run is GSUB.
 #[repr(C)]
-#[derive(Drop)]
+#[derive(Clone, Copy)]
 pub struct Switches {
     pub zwnj: bool,
     pub zwj: bool,
@@ -22,7 +22,7 @@ pub struct Switches {
 
 // 0 Finished, 8 Short, 9 Deep or 10 Full with what the run answers; or a refusal's number, and 0 everywhere else.
 #[repr(C)]
-#[derive(Drop)]
+#[derive(Clone, Copy)]
 pub struct Ran {
     pub number: u8,
     pub spent: u32,

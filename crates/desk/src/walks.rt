@@ -11,7 +11,7 @@ use walk::Walked;
 
 // A lookup's table and settings, its mask and its props.
 #[repr(C)]
-#[derive(Drop)]
+#[derive(Clone, Copy)]
 pub struct Lookup {
     pub gpos: bool,
     pub zwnj: bool,
@@ -23,7 +23,7 @@ pub struct Lookup {
 
 // What is sought: the kind of test (0 equal, 1 any, any other number none), its value, and the starting syllable.
 #[repr(C)]
-#[derive(Drop)]
+#[derive(Clone, Copy)]
 pub struct Sought {
     pub test: u8,
     pub syllable: u8,
@@ -32,7 +32,7 @@ pub struct Sought {
 
 // 0 with the answer's place in its list, or 1.
 #[repr(C)]
-#[derive(Drop)]
+#[derive(Clone, Copy)]
 pub struct Said {
     pub number: u8,
     pub said: u8,
@@ -40,7 +40,7 @@ pub struct Said {
 
 // 0 with the place found, 4 with the extent and whether no glyph was left, or 1.
 #[repr(C)]
-#[derive(Drop)]
+#[derive(Clone, Copy)]
 pub struct Step {
     pub number: u8,
     pub ranout: bool,

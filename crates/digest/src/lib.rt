@@ -1,4 +1,6 @@
 // Digests of sets of glyphs: small sums that say "not in it" for certain, or "maybe".
+#![tactic(auto)]
+
 ghost use Rattle.std.specs.Prelude.{◌≡◌, ℕ, ◌/◌, ◌^◌, ◌<◌, ◌||◌};
 ghost use Rattle.bits.specs.Bits.{bit};
 ghost use Rattle.mask.specs.Mask.{round};
@@ -7,13 +9,13 @@ ghost use Rattle.digest.specs.Digest.{added, added_all, ranged, every_bit, range
 
 const SHIFTS: [u32; 3] = [4, 0, 6];
 
-#[derive(Drop)]
+#[derive(Clone, Copy)]
 pub struct SetDigest {
     pub masks: [u64; 3],
 }
 
 // A digest to which a range was added, and what adding it answers.
-#[derive(Drop)]
+#[derive(Clone, Copy)]
 pub struct Ranged {
     pub digest: SetDigest,
     pub yes: bool,

@@ -2,6 +2,8 @@
 // matcher saw of each glyph, in words, and the tape's answer. What is said comes from proved functions: `explain_glyph` and `explain_line` for the
 // reasons, `tape_frame`, `matching_calls` and `tape_answer` for the answer. Where standard output takes no more, standard error says so, and no more
 // frames are read.
+#![tactic(auto)]
+
 mod answer;
 mod head;
 mod rows;
@@ -23,7 +25,7 @@ use verdict::{Matcher, Sign, Table, Test};
 
 // What is kept from read to read: the bytes of the line so far, and the number of lines before it. No more is read where the input has ended or where
 // answers are lost.
-#[derive(Drop)]
+#[derive(Clone, Copy)]
 pub struct Turns {
     pub kept: usize,
     pub lines: u64,

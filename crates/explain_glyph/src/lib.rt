@@ -1,5 +1,7 @@
 // What there is to say of a glyph that input matching meets: what is asked of it, which rule decided, and what came of it.
 // Every answer here is equal to a definition over those of `verdict`, `ligature` and `matching`, so that no wrong reason can be given.
+#![tactic(auto)]
+
 ghost use Rattle.std.specs.Prelude.{◌≡◌, cond};
 ghost use Rattle.glyph.specs.Glyph.{glyphs_of};
 ghost use Rattle.explain_glyph.specs.Reason.{yes_reason, no_reason, skip_reason, value_reason, match_reason};
@@ -10,7 +12,7 @@ use ligature::Ligbase;
 use verdict::{Matcher, MayMatch, MaySkip, Sign, Test, Verdict};
 
 // The rule that decided may skip.
-#[derive(Drop)]
+#[derive(Clone, Copy)]
 pub enum SkipReason {
     // Yes: flags 2, 4 and 8 of the lookup ignore the glyph's class.
     IgnoredBase,
@@ -31,7 +33,7 @@ pub enum SkipReason {
 }
 
 // The rule that decided may match.
-#[derive(Drop)]
+#[derive(Clone, Copy)]
 pub enum MatchReason {
     // No: the glyph has no bit of the matcher's mask.
     NoMask,
@@ -48,7 +50,7 @@ pub enum MatchReason {
 }
 
 // May skip, may match and the verdict, with what decided them.
-#[derive(Drop)]
+#[derive(Clone, Copy)]
 pub struct Seen {
     pub skip: MaySkip,
     pub why: SkipReason,
@@ -58,14 +60,14 @@ pub struct Seen {
 }
 
 // The ligature rule on a later glyph: what it knows of the base, and whether the glyph may be taken with the first.
-#[derive(Drop)]
+#[derive(Clone, Copy)]
 pub struct Joined {
     pub base: Ligbase,
     pub joins: bool,
 }
 
 // What a glyph makes of the match.
-#[derive(Drop)]
+#[derive(Clone, Copy)]
 pub enum Turn {
     // The walk goes on to the next glyph, for the same value.
     Passed,
@@ -77,7 +79,7 @@ pub enum Turn {
     Unlike,
 }
 
-#[derive(Drop)]
+#[derive(Clone, Copy)]
 pub struct Told {
     pub seen: Seen,
     pub joined: Joined,

@@ -1,4 +1,6 @@
 // Lines of text: why one that is no frame of the bench tape is none, and words put into one, of which no byte is left out.
+#![tactic(auto)]
+
 ghost use Rattle.std.specs.Prelude.{◌≡◌};
 ghost use Rattle.tape_frame.specs.Digits.{is_digit};
 ghost use Rattle.tape_frame.specs.Put.{Puts};
@@ -6,7 +8,7 @@ ghost use Rattle.explain_line.specs.Fault.{bad_from, fault_of};
 ghost use Rattle.explain_line.specs.Words.{IsFitting};
 
 // What keeps a line from being a frame.
-#[derive(Drop)]
+#[derive(Clone, Copy)]
 pub enum LineFault {
     // More digits than the longest frame has.
     TooLong,

@@ -1,4 +1,6 @@
 // A row is a lent slice of words, WORDS of them a glyph. Only this crate knows where a glyph's words stand.
+#![tactic(auto)]
+
 ghost use Rattle.std.specs.Prelude.{◌≡◌, ◌+◌, ◌≤◌, ◌<◌, length, get_or, set, take, drop, replicate};
 ghost use Rattle.std.proofs.Math.Seq.{paste};
 ghost use Rattle.glyph.specs.Glyph.{glyphs_of, blank, ill_shaped};
@@ -8,7 +10,7 @@ pub const WORDS: usize = 4;
 
 pub const LIMIT: usize = 2048;
 
-#[derive(Drop)]
+#[derive(Clone, Copy)]
 pub struct Glyph {
     pub id: u32,
     pub mask: u32,

@@ -3,6 +3,8 @@
 // are then neighbours that must not become one mark. So glyphs attached to a ligature match together only within one component. Two
 // exceptions: a ligature may take in its own marks, and marks of different components may be taken together where the lookup ignores the
 // ligature that they belong to.
+#![tactic(auto)]
+
 ghost use Rattle.std.specs.Prelude.{◌≡◌, length};
 ghost use Rattle.glyph.specs.Glyph.{glyphs_of};
 ghost use Rattle.ligature.specs.Ligature.{attached, may_join, base_before, base_skips};
@@ -11,14 +13,14 @@ ghost use Rattle.ligature.specs.Search.{base_needed, may_skip, looked};
 use glyph::Glyph;
 use verdict::Matcher;
 
-#[derive(Drop)]
+#[derive(Clone, Copy)]
 pub enum Base {
     At(usize),
     Nothing,
 }
 
 // What is known of the base: the search is made at most once a match, and only when it is needed.
-#[derive(Drop)]
+#[derive(Clone, Copy)]
 pub enum Ligbase {
     NotChecked,
     MayNotSkip,

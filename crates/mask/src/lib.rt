@@ -1,4 +1,6 @@
 // One mask of 64 bits: what both digests are made of. A number stands for the bit at its rest mod 64.
+#![tactic(auto)]
+
 ghost use Rattle.std.specs.Prelude.{◌&&◌, ◌||◌, ◌≡◌, ℕ, ◌%◌, ◌≤◌, ◌<◌, eqb, leb};
 ghost use Rattle.bits.specs.Bits.{bit, every, some};
 ghost use Rattle.mask.specs.Mask.{round};

@@ -1,4 +1,6 @@
 // The matchers' types and definitions, and input against a text.
+#![tactic(auto)]
+
 ghost use Rattle.std.specs.Prelude.{◌≡◌, [], ◌<◌, length};
 ghost use Rattle.glyph.specs.Glyph.{glyphs_of};
 ghost use Rattle.verdict.specs.Verdict.{value_by};
@@ -15,7 +17,7 @@ use verdict::{Matcher, Settings, Sign, Table, Test, Verdict};
 pub const MAX_CONTEXT_LENGTH: usize = 64;
 
 // What a lookup asks of a text, the same for every glyph.
-#[derive(Drop)]
+#[derive(Clone, Copy)]
 pub struct Terms {
     pub settings: Settings,
     pub mask: u32,
@@ -23,7 +25,7 @@ pub struct Terms {
 }
 
 // What a call is refused for before anything is matched.
-#[derive(Drop)]
+#[derive(Clone, Copy)]
 pub enum Refusal {
     // Refusal 1.
     Shape,
@@ -35,7 +37,7 @@ pub enum Refusal {
     Start,
 }
 
-#[derive(Drop)]
+#[derive(Clone, Copy)]
 pub enum InputAnswer {
     // The last position and one more, and the total of component counts.
     Matched { end: usize, total: u16 },
@@ -47,14 +49,14 @@ pub enum InputAnswer {
 }
 
 // The answer, and the positions that it counts; the other slots are 0.
-#[derive(Drop)]
+#[derive(Clone, Copy)]
 pub struct InputMatch {
     pub answer: InputAnswer,
     pub count: usize,
     pub positions: [u16; 64],
 }
 
-#[derive(Drop)]
+#[derive(Clone, Copy)]
 pub enum ContextMatch {
     // Lookahead: the last place and one more, or the start. Backtrack: the last place, or the backward row's length.
     Matched(usize),

@@ -1,4 +1,6 @@
 // The three calls on rows of words that a user makes, refused in 01's order before anything is matched.
+#![tactic(auto)]
+
 ghost use Rattle.std.specs.Prelude.{◌≡◌, []};
 ghost use Rattle.verdict.specs.Verdict.{value_by};
 ghost use Rattle.matching.specs.Answers.{without};

@@ -1,4 +1,6 @@
 // Lookahead and backtrack against a text, and the backward row.
+#![tactic(auto)]
+
 ghost use Rattle.std.specs.Prelude.{◌≡◌, ◌≤◌, length};
 ghost use Rattle.glyph.specs.Glyph.{glyphs_of};
 ghost use Rattle.verdict.specs.Verdict.{value_by};

@@ -1,4 +1,6 @@
 // What the three calls are refused for, told before anything is matched.
+#![tactic(auto)]
+
 ghost use Rattle.std.specs.Prelude.{◌≡◌, cond};
 ghost use Rattle.matching.specs.declared.Refusal.TheVariants.{Shape, Cursor, Values, Start};
 ghost use Rattle.matching_refuse.specs.declared.Fit.{Fit};
@@ -7,7 +9,7 @@ ghost use Rattle.matching_refuse.specs.Fit.{bad_text, input_fit, ahead_fit, back
 use matching::{MAX_CONTEXT_LENGTH, Refusal};
 
 // What the tests before matching say.
-#[derive(Drop)]
+#[derive(Clone, Copy)]
 pub enum Fit {
     Fits,
     Refused(Refusal),

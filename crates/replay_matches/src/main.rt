@@ -4,10 +4,12 @@
 // mark sets, values, the words of done, the words of coming; then the answer. Of input it is the number, the end or the extent, the total
 // (FFFFFFFF where the original can't hold it), the count and the positions; of the others the number and the place.
 // An operation of 100 and more is the same question where ours and the original's answers differ (docs/DIFFERENCES.md), with ours.
+#![tactic(auto)]
+
 use matching::{ContextMatch, InputAnswer, InputMatch, Terms};
 use stored::{Replayed, after, list, listed, more, say, size, slots_are, word};
 
-#[derive(Drop)]
+#[derive(Clone, Copy)]
 struct Tally {
     input: u64,
     lookahead: u64,

@@ -6,6 +6,8 @@
 // A line may open with 51, or with 251 where the run is refused, and six words more: d, the words of done's row and of coming's, what every cell
 // holds that the lists leave out, before the run and after it, and the match's number. Done's list stands at its row's front, coming's at its end.
 // An operation of 100 to 199 is the same question where ours and the original's answers differ (docs/DIFFERENCES.md), with ours.
+#![tactic(auto)]
+
 ghost use Rattle.std.specs.Prelude.{◌≤◌};
 
 use matching::{InputAnswer, InputMatch, Refusal};
@@ -18,7 +20,7 @@ const ROW: usize = glyph::WORDS * glyph::LIMIT;
 
 const ROOM: usize = ROW + glyph::WORDS;
 
-#[derive(Drop)]
+#[derive(Clone, Copy)]
 struct Tally {
     finished: u64,
     short: u64,
@@ -31,7 +33,7 @@ struct Tally {
     wrong: u64,
 }
 
-#[derive(Drop)]
+#[derive(Clone, Copy)]
 struct Refusals {
     by_1: u64,
     by_2: u64,
@@ -41,14 +43,14 @@ struct Refusals {
 }
 
 // A line that was replayed, and the number that we answered.
-#[derive(Drop)]
+#[derive(Clone, Copy)]
 struct Answered {
     line: Replayed,
     number: u32,
 }
 
 // What a line says of the rows, how the match was answered, and where the line goes on as one of 50.
-#[derive(Drop)]
+#[derive(Clone, Copy)]
 struct Opening {
     d: usize,
     done: usize,
@@ -60,7 +62,7 @@ struct Opening {
 }
 
 // The lists that a line asks with.
-#[derive(Drop)]
+#[derive(Clone, Copy)]
 struct Lists {
     positions: Span,
     marks: Span,

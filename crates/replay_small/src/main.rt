@@ -1,12 +1,14 @@
 // Replays a stored list of the original's answers on digests and allowances (standard input; compare/README.md says how it was made)
 // and prints how many were asked of each kind and how many came out otherwise. A line's words are its operation, the state before,
 // the arguments, and the original's answer; a number of 64 bits is two words, the high one first.
+#![tactic(auto)]
+
 use allowance::{Budget, Charged};
 use digest::SetDigest;
 use rule_digest::RuleSetDigest;
 use stored::{Replayed, after, more, number, part, say, word};
 
-#[derive(Drop)]
+#[derive(Clone, Copy)]
 struct Tally {
     sets: u64,
     rules: u64,

@@ -4,12 +4,14 @@
 // context, test, value, syllable, place, len, how many words of mark sets and these, how many words of the row and these, and the answer.
 // An operation from 100 on is the same question where ours and the original's answers differ (docs/DIFFERENCES.md), with ours; from 200 on it is
 // one that is refused by 1, with 9 as its answer.
+#![tactic(auto)]
+
 use stored::{Replayed, after, list, listed, more, say, size, word};
 use verdict::{Matcher, MayMatch, MaySkip, Sign, Verdict};
 use verdict_ask::{MatchAnswer, SkipAnswer, VerdictAnswer};
 use walk::Walked;
 
-#[derive(Drop)]
+#[derive(Clone, Copy)]
 struct Tally {
     differences: u64,
     refused: u64,
@@ -22,7 +24,7 @@ struct Tally {
 }
 
 // What a line asks beside its rows.
-#[derive(Drop)]
+#[derive(Clone, Copy)]
 struct Question {
     op: u32,
     matcher: Matcher,

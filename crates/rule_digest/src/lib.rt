@@ -1,8 +1,10 @@
 // A digest of the values that a set of rules can start with: one mask on the value mod 64.
+#![tactic(auto)]
+
 ghost use Rattle.std.specs.Prelude.{◌≡◌, true, false, ◌%◌};
 ghost use Rattle.rule_digest.specs.Rule.{rule_bits, RuleSays, rule_added, rule_full, rule_may_have};
 
-#[derive(Drop)]
+#[derive(Clone, Copy)]
 pub struct RuleSetDigest {
     pub mask: u64,
 }

@@ -1,10 +1,12 @@
 // How a run over a text ends. What a run does is said in specs/, over texts; the crate `run_calls` does it over rows.
+#![tactic(auto)]
+
 ghost use Rattle.std.specs.Prelude.{◌≡◌};
 ghost use Rattle.run.specs.Run.{is_over};
 ghost use Rattle.run.specs.Numbers.{ending_number, run_refusal_number, run_number};
 
 // What is the same for every chain of a run: the three switches and the lookup mask. A run is of GSUB, so no table is named.
-#[derive(Drop)]
+#[derive(Clone, Copy)]
 pub struct Given {
     pub zwnj: bool,
     pub zwj: bool,
@@ -12,7 +14,7 @@ pub struct Given {
     pub mask: u32,
 }
 
-#[derive(Drop)]
+#[derive(Clone, Copy)]
 pub enum Ending {
     Finished,
     Short,
@@ -21,7 +23,7 @@ pub enum Ending {
 }
 
 // What a run is refused for before anything is tried.
-#[derive(Drop)]
+#[derive(Clone, Copy)]
 pub enum RunRefusal {
     // Refusal 1.
     Shape,
@@ -35,7 +37,7 @@ pub enum RunRefusal {
     Match,
 }
 
-#[derive(Drop)]
+#[derive(Clone, Copy)]
 pub enum RunEnding {
     Ended(Ending),
     Refused(RunRefusal),

@@ -1,4 +1,6 @@
 // A lookup of kind 1 or 2 at the cursor of a text in two rows: what it does to the glyph there.
+#![tactic(auto)]
+
 ghost use Rattle.std.specs.Prelude.{◌≤◌, ◌<◌, length};
 ghost use Rattle.glyph.specs.Glyph.{limit};
 ghost use Rattle.text.specs.Text.{Fits};

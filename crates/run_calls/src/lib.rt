@@ -1,4 +1,6 @@
 // Nested lookups: a run of records over a text in two rows.
+#![tactic(auto)]
+
 ghost use Rattle.std.specs.Prelude.{◌≡◌, ◌≤◌, ◌<◌, length};
 ghost use Rattle.glyph.specs.Glyph.{limit};
 ghost use Rattle.text.specs.Text.{text_of, Fits};
@@ -18,7 +20,7 @@ use run_refuse::Checked;
 use text::Place;
 
 // How the run ended, the lookups tried, where the text is parted, and the first level's positions; all 0 where it was refused.
-#[derive(Drop)]
+#[derive(Clone, Copy)]
 pub struct RunAnswer {
     pub ending: RunEnding,
     pub spent: u32,

@@ -1,4 +1,6 @@
 // A chain of a book at the cursor of a text in two rows: its values matched in the rows, and the level that a match opens.
+#![tactic(auto)]
+
 ghost use Rattle.std.specs.Prelude.{◌≡◌, map, ◌≤◌, ◌<◌, length};
 ghost use Rattle.glyph.specs.Glyph.{limit, glyphs_of};
 ghost use Rattle.text.specs.Text.{text_of, Fits};
@@ -18,7 +20,7 @@ use text::Place;
 use verdict::{Settings, Sign, Table, Test};
 
 // A chain that matched, where it did: its level and its records.
-#[derive(Drop)]
+#[derive(Clone, Copy)]
 pub struct Aim {
     pub hit: bool,
     pub level: Slots,
@@ -26,7 +28,7 @@ pub struct Aim {
 }
 
 // How the values of each part of a chain are tested; the first glyph's value is tested as the input's are.
-#[derive(Drop)]
+#[derive(Clone, Copy)]
 pub struct Tests {
     pub backtrack: Test,
     pub input: Test,

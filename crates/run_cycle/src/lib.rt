@@ -1,4 +1,6 @@
 // A level of a run, its records in order, and the lookups that they name: two functions in a cycle, over a text in two rows.
+#![tactic(auto)]
+
 ghost use Rattle.std.specs.Prelude.{◌+◌, ◌≤◌, ◌<◌, length};
 ghost use Rattle.glyph.specs.Glyph.{limit};
 ghost use Rattle.text.specs.Text.{Fits};
@@ -16,7 +18,7 @@ use run_positions::Slots;
 use run_step::State;
 
 // A level that is done: the run, and the level with its repaired positions.
-#[derive(Drop)]
+#[derive(Clone, Copy)]
 pub struct Closed {
     pub state: State,
     pub level: Slots,

@@ -1,4 +1,6 @@
 // A level of a run in 64 slots: its opening from a match, and the repair of its positions.
+#![tactic(auto)]
+
 ghost use Rattle.std.specs.Prelude.{◌≡◌, map, ◌+◌, ◌-◌, ◌≤◌, ◌<◌, min, length, get_or, take};
 ghost use Rattle.glyph.specs.Glyph.{limit};
 ghost use Rattle.matching.specs.Answers.{slotted};
@@ -9,7 +11,7 @@ ghost use Rattle.run.specs.Run.{from_done, moved_level};
 pub const SLOTS: usize = 64;
 
 // Whether its records go on, its end, and its positions from the text's first glyph on; unused slots are 0.
-#[derive(Drop)]
+#[derive(Clone, Copy)]
 pub struct Slots {
     pub live: bool,
     pub end: usize,

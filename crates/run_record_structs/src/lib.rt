@@ -1,4 +1,6 @@
 // Records as structs: a run over a lent slice of them answers as the run on the same pairs in words.
+#![tactic(auto)]
+
 ghost use Rattle.std.specs.Prelude.{◌≡◌, ◌*◌, ◌<◌, ◌≤◌, length, get_or, take};
 ghost use Rattle.run_calls.specs.Calls.{Said};
 ghost use Rattle.run_record_structs.specs.Records.{record_words};
@@ -9,7 +11,7 @@ use run::Given;
 use run_calls::RunAnswer;
 
 // Which position of the match, and which lookup of the book.
-#[derive(Drop)]
+#[derive(Clone, Copy)]
 pub struct Record {
     pub sequence: u16,
     pub lookup: u16,
@@ -50,7 +52,7 @@ pub fn run(
 }
 
 // The first records as pairs of words, and how many there are.
-#[derive(Drop)]
+#[derive(Clone, Copy)]
 struct Pairs {
     n: usize,
     words: [u16; 2 * KEPT],

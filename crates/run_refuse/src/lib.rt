@@ -1,5 +1,7 @@
 // What a run is refused for before it begins, its book aside: rows, mark sets and records by 1, the cursor by 2, allowance and depth by 12, the match
 // handed in by 7.
+#![tactic(auto)]
+
 ghost use Rattle.std.specs.Prelude.{◌≡◌, ◌≤◌, length, take};
 ghost use Rattle.run_refuse.specs.Refuse.{bad_records, checked_first, rises_to, good_places};
 
@@ -11,7 +13,7 @@ pub const MOST_ALLOWANCE: u32 = 2147483647;
 
 pub const MAX_NESTING_LEVEL: usize = 64;
 
-#[derive(Drop)]
+#[derive(Clone, Copy)]
 pub enum Checked {
     Accepted,
     Refused(RunRefusal),

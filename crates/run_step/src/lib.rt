@@ -1,4 +1,6 @@
 // The steps of a run over a text in two rows: a record judged and reached, a level closed.
+#![tactic(auto)]
+
 ghost use Rattle.std.specs.Prelude.{◌≡◌, ◌+◌, ◌-◌, ◌≤◌, ◌<◌, length};
 ghost use Rattle.glyph.specs.Glyph.{limit};
 ghost use Rattle.text.specs.Text.{text_of, size_of, Fits};
@@ -14,7 +16,7 @@ use text::Place;
 // A run under way: where the text is parted, and its tally: the allowance that is left, the lookups tried so far, and how it would end now. States
 // are made by `begin`, `parted`, `ended` and `spend`. The tally's fields stand in it, and not in a struct of their own, which would be copied with
 // its padding.
-#[derive(Drop)]
+#[derive(Clone, Copy)]
 pub struct State {
     pub place: Place,
     pub left: u32,
@@ -23,7 +25,7 @@ pub struct State {
 }
 
 // A record before its lookup is tried: whether it is, and what the run and the level are then.
-#[derive(Drop)]
+#[derive(Clone, Copy)]
 pub struct Ready {
     pub go: bool,
     pub state: State,

@@ -1,5 +1,7 @@
 // Reads a stored list of questions and answers: words of eight hexadecimal digits, each with one byte after it; and what the programs that replay a
 // list share.
+#![tactic(auto)]
+
 ghost use Rattle.std.specs.Prelude.{◌≡◌, ℕ, ◌+◌, ◌*◌, ◌/◌, ◌%◌, ◌^◌, ◌<◌, ◌≤◌, min, Bool, length, if◌then◌else◌, nat_lt, slice_index};
 ghost use Rattle.io.specs.Counts.{IsPrefixLen};
 ghost use Rattle.stored.specs.Stored.{hex_digit, byte_at, word_from, stored_word, number_at, part_between, span_from, settings_from, slot_is};
@@ -13,14 +15,14 @@ pub const TEXT: usize = 2097152;
 pub const WORDS_OF_A_LIST: usize = TEXT / 9;
 
 // A list of a line: its first word and the word after it.
-#[derive(Drop)]
+#[derive(Clone, Copy)]
 pub struct Span {
     pub from: usize,
     pub to: usize,
 }
 
 // A line that was replayed: whether our answer was the stored one, and where the next line begins.
-#[derive(Drop)]
+#[derive(Clone, Copy)]
 pub struct Replayed {
     pub right: bool,
     pub next: usize,

@@ -1,4 +1,6 @@
 // The bench tape: its types and definitions, and an answer's digits.
+#![tactic(auto)]
+
 ghost use Rattle.std.specs.Prelude.{◌≡◌, [], ◌∷◌, ◌+◌, ◌-◌, ◌*◌, ◌≤◌, ◌<◌, min, length, take, drop};
 ghost use Rattle.matching.specs.Answers.{refusal_number, input_reply};
 ghost use Rattle.matching.specs.Take.{slots};
@@ -22,7 +24,7 @@ const SLOTS: usize = matching::MAX_CONTEXT_LENGTH;
 pub const NEWLINE: u8 = 10;
 
 // How far a tape is read: the place in the piece at hand, the bytes kept of the line so far, and the bytes of answers so far.
-#[derive(Drop)]
+#[derive(Clone, Copy)]
 pub struct Fed {
     pub at: usize,
     pub kept: usize,
@@ -30,7 +32,7 @@ pub struct Fed {
 }
 
 // The same of one byte.
-#[derive(Drop)]
+#[derive(Clone, Copy)]
 pub struct Taken {
     pub kept: usize,
     pub written: usize,

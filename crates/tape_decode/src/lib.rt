@@ -1,4 +1,6 @@
 // A line of the bench tape as a frame or none: its digits spell bytes, and the bytes are a frame.
+#![tactic(auto)]
+
 ghost use Rattle.std.specs.Prelude.{◌≡◌, true, ◌*◌, ◌≤◌, length};
 ghost use Rattle.tape_frame.specs.Digits.{digit, spells, bytes_of};
 ghost use Rattle.tape_frame.specs.Frame.{whole_frame, read_bytes, frame_of};

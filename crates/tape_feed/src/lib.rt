@@ -1,4 +1,6 @@
 // What a line of the bench tape is answered, and a tape in pieces.
+#![tactic(auto)]
+
 ghost use Rattle.std.specs.Prelude.{◌≡◌, ◌+◌, ◌-◌, ◌*◌, ◌≤◌, ◌<◌, length, take, drop};
 ghost use Rattle.glyph.specs.Glyph.{words};
 ghost use Rattle.tape_frame.specs.Decoding.{Bounded};

@@ -1,4 +1,6 @@
 // A frame of the bench tape: its types and definitions, and its parts as they stand in its bytes.
+#![tactic(auto)]
+
 ghost use Rattle.std.specs.Prelude.{◌≡◌, ◌+◌, ◌*◌, ◌≤◌, length, get_or};
 ghost use Rattle.glyph.specs.Glyph.{words};
 ghost use Rattle.tape_frame.specs.Frame.{half_at, word_at, words_at, opens, table_kind, settings_of, value_count};
@@ -25,7 +27,7 @@ pub const MOST_DIGITS: usize = 2 * MOST_BYTES;
 pub const ROW: usize = glyph::WORDS * MOST_GLYPHS;
 
 // The table kind that an opening chooses.
-#[derive(Drop)]
+#[derive(Clone, Copy)]
 pub enum Kind {
     Gsub,
     Gpos,
@@ -33,7 +35,7 @@ pub enum Kind {
 }
 
 // A frame's numbers: what a lookup asks, the cursor, how many values it has, and how many glyphs each row.
-#[derive(Drop)]
+#[derive(Clone, Copy)]
 pub struct Head {
     pub settings: Settings,
     pub mask: u32,
@@ -44,7 +46,7 @@ pub struct Head {
     pub coming: usize,
 }
 
-#[derive(Drop)]
+#[derive(Clone, Copy)]
 pub enum Decoded {
     Frame(Head),
     NoFrame,

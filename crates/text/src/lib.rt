@@ -1,9 +1,11 @@
 // A text in two rows: `done` holds its first d glyphs, `coming` ends with the others, from glyph idx on. The cursor stands between them.
+#![tactic(auto)]
+
 ghost use Rattle.std.specs.Prelude.{◌≡◌, [], ◌∷◌, ◌+◌, ◌≤◌, ◌<◌, length, get_or, set};
 ghost use Rattle.glyph.specs.Glyph.{limit, glyphs_of, blank};
 ghost use Rattle.text.specs.Text.{text_of, size_of, Fits, Holds, Clear, moved_to, written, replaced, is_full, unfit, past_end};
 
-#[derive(Drop)]
+#[derive(Clone, Copy)]
 pub struct Place {
     pub d: usize,
     pub idx: usize,

@@ -1,17 +1,19 @@
 // What a lookup asks of the glyphs that it walks over, and what is answered of one: the types, their definitions, and the two matchers.
+#![tactic(auto)]
+
 ghost use Rattle.std.specs.Prelude.{◌≡◌};
 ghost use Rattle.verdict.specs.Matcher.{is_gpos, matcher_of};
 ghost use Rattle.verdict.specs.Numbers.{table_of, test_of};
 
 // The layout table that a lookup is of.
-#[derive(Drop)]
+#[derive(Clone, Copy)]
 pub enum Table {
     Gsub,
     Gpos,
 }
 
 // The table, and what is asked for: auto-ZWNJ, auto-ZWJ, syllables.
-#[derive(Drop)]
+#[derive(Clone, Copy)]
 pub struct Settings {
     pub table: Table,
     pub zwnj: bool,
@@ -21,7 +23,7 @@ pub struct Settings {
 
 // What a lookup asks of the glyphs that it walks over: its props and mask, which of ZWNJ, ZWJ and hidden glyphs are
 // ignored, and whether syllables are tested.
-#[derive(Drop)]
+#[derive(Clone, Copy)]
 pub struct Matcher {
     pub props: u32,
     pub mask: u32,
@@ -31,21 +33,21 @@ pub struct Matcher {
     pub syllabic: bool,
 }
 
-#[derive(Drop)]
+#[derive(Clone, Copy)]
 pub enum MaySkip {
     No,
     Yes,
     Maybe,
 }
 
-#[derive(Drop)]
+#[derive(Clone, Copy)]
 pub enum MayMatch {
     No,
     Yes,
     Maybe,
 }
 
-#[derive(Drop)]
+#[derive(Clone, Copy)]
 pub enum Verdict {
     Match,
     NotMatch,
@@ -54,7 +56,7 @@ pub enum Verdict {
 
 // How a value is held against a glyph. Functions that take a test also take `lists`, words lent beside the values, for a test that needs more than
 // the value; none of these does.
-#[derive(Drop)]
+#[derive(Clone, Copy)]
 pub enum Test {
     Equal,
     Any,
@@ -62,7 +64,7 @@ pub enum Test {
 }
 
 // What a glyph is tested for.
-#[derive(Drop)]
+#[derive(Clone, Copy)]
 pub struct Sign {
     pub test: Test,
     pub value: u32,

@@ -1,4 +1,6 @@
 // The two questions and the verdict as a user asks them: of a place of a row, answered or refused by 1.
+#![tactic(auto)]
+
 ghost use Rattle.std.specs.Prelude.{◌≡◌, [], ◌||◌};
 ghost use Rattle.glyph.specs.Sets.{odd_sets};
 ghost use Rattle.verdict.specs.Verdict.{value_of};
@@ -6,21 +8,21 @@ ghost use Rattle.verdict_ask.specs.Ask.{bad_place, ask_skip, ask_match, ask_verd
 
 use verdict::{Matcher, MayMatch, MaySkip, Sign, Verdict};
 
-#[derive(Drop)]
+#[derive(Clone, Copy)]
 pub enum SkipAnswer {
     Said(MaySkip),
     // Refusal 1.
     Refused,
 }
 
-#[derive(Drop)]
+#[derive(Clone, Copy)]
 pub enum MatchAnswer {
     Said(MayMatch),
     // Refusal 1.
     Refused,
 }
 
-#[derive(Drop)]
+#[derive(Clone, Copy)]
 pub enum VerdictAnswer {
     Said(Verdict),
     // Refusal 1.

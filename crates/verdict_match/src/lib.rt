@@ -1,4 +1,6 @@
 // May a glyph match, and what does a walk make of it?
+#![tactic(auto)]
+
 ghost use Rattle.std.specs.Prelude.{◌≡◌, cond};
 ghost use Rattle.verdict.specs.declared.Verdict.{Verdict};
 ghost use Rattle.verdict.specs.declared.MaySkip.{MaySkip};

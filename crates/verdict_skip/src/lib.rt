@@ -1,4 +1,6 @@
 // May a glyph be skipped?
+#![tactic(auto)]
+
 ghost use Rattle.std.specs.Prelude.{◌≡◌, cond, ◌≤◌};
 ghost use Rattle.verdict.specs.Verdict.{ignored_class, other_mark, skip_yes, ignorable, skip_of};
 ghost use Rattle.verdict_skip.specs.Care.{care_of};

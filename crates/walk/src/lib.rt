@@ -1,4 +1,6 @@
 // The walks: forward and backward over a row, to the next glyph that isn't passed over.
+#![tactic(auto)]
+
 ghost use Rattle.std.specs.Prelude.{◌≡◌, [], ◌-◌, ◌≤◌, max, length};
 ghost use Rattle.glyph.specs.Glyph.{glyphs_of};
 ghost use Rattle.verdict.specs.Verdict.{value_of, judge_at};
@@ -7,7 +9,7 @@ ghost use Rattle.walk.specs.Calls.{bad_walk, forward_of, backward_of};
 
 use verdict::{Matcher, Sign, Verdict};
 
-#[derive(Drop)]
+#[derive(Clone, Copy)]
 pub enum Walked {
     // The place of a glyph that matches.
     Found(usize),

@@ -1,5 +1,7 @@
 // Long lines of marks that a walk passes over, crossed quickly. It is there for speed alone: a walk answers the same without it. Each glyph that is
 // crossed is skip Yes; where the crossing ends, perhaps early, the walk goes on glyph by glyph. A walk that doesn't look to be long crosses nothing.
+#![tactic(auto)]
+
 ghost use Rattle.std.specs.Prelude.{◌≡◌, ◌+◌, ◌*◌, ◌/◌, ◌≤◌, ◌<◌, max, length, get_or};
 ghost use Rattle.glyph.specs.Glyph.{glyphs_of};
 ghost use Rattle.verdict.specs.Verdict.{is_mark};

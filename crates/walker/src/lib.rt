@@ -1,5 +1,7 @@
 // A walker keeps the row that it walks and the place where it stands, as the original's `SkippingIterator` does. It goes by value: a step takes it
 // apart, calls the walk and answers, and `follow` is the walker that went there.
+#![tactic(auto)]
+
 ghost use Rattle.std.specs.Prelude.{◌≡◌, []};
 ghost use Rattle.verdict.specs.Verdict.{value_of};
 ghost use Rattle.walk.specs.Calls.{forward_of, backward_of};
@@ -8,7 +10,7 @@ ghost use Rattle.walker.specs.Walker.{standing, place_after, nth_of};
 use verdict::{Matcher, Sign};
 use walk::Walked;
 
-#[derive(Drop)]
+#[derive(Clone, Copy)]
 pub struct Walker<'a> {
     pub row: &'a [u32],
     pub place: usize,

@@ -35,5 +35,5 @@ returns-2 c =
     ∙ rw (c.before.span2.ensures k, c.span3.ensures k, lt-leb _ _ at-if1.if1.false, le-leb k 63 (omega arith), leb-zero k)
     (and-true (leb (start.args.a % 64) k) (leb k (start.args.b % 64)))
 
-pub arc-spec : {M : Type 1} → statement M
-arc-spec = tie.close (tie.spec span-requires returns span-requires-2 span-requires-3 returns-2)
+pub arc_spec : {M : Type 1} → statement M
+arc_spec = tie.close (tie.spec span-requires returns span-requires-2 span-requires-3 returns-2)

@@ -7,5 +7,5 @@ use Rattle.mask.proofs.is_full.Tie as tie
 returns : tie.Need-returns
 returns c = full_bits 64 c.args.mask (omega arith)
 
-pub is-full-spec : {M : Type 1} → statement M
-is-full-spec = tie.close (tie.spec returns)
+pub is_full_spec : {M : Type 1} → statement M
+is_full_spec = tie.close (tie.spec returns)

@@ -7,5 +7,5 @@ use Rattle.mask.proofs.meet.Tie as tie
 returns : tie.Need-returns
 returns c = common_bit 64 c.args.a c.args.b (omega arith)
 
-pub meet-spec : {M : Type 1} → statement M
-meet-spec = tie.close (tie.spec returns)
+pub meet_spec : {M : Type 1} → statement M
+meet_spec = tie.close (tie.spec returns)

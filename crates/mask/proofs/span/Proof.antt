@@ -7,17 +7,17 @@ use borrow.Author.Rules.{rules}
 use Rattle.mask.proofs.span.Statement.{statement}
 use Rattle.mask.proofs.span.Tie as tie
 
-shl-ma : tie.Need-overflow-shl-ma
+shl-ma : tie.Need-overflow_shl-ma
 shl-ma c = search rules
 
-shl-mb : tie.Need-overflow-shl-mb
+shl-mb : tie.Need-overflow_shl-mb
 shl-mb c = search rules
 
-sub-result : tie.Need-overflow-sub-result
+sub-result : tie.Need-overflow_sub-result
 sub-result c = let a = c.args.a in let b = c.args.b in
     rw (shifted a (omega arith), shifted b (omega arith)) (omega (arith, pow_le a b (omega arith)))
 
-add-result : tie.Need-overflow-add-result
+add-result : tie.Need-overflow_add-result
 add-result c = let a = c.args.a in let b = c.args.b in
     rw (shifted a (omega arith), shifted b (omega arith))
     (omega (arith, pow_le a b (omega arith), pow_le (b + 1) 64 (omega arith), pow-add 2 b 1, pow_pos a))
@@ -26,5 +26,5 @@ returns : tie.Need-returns
 returns c = λ k. let a = c.args.a in let b = c.args.b in
     rw (shifted a (omega arith), shifted b (omega arith)) (span_bit a b k (omega arith))
 
-pub span-spec : {M : Type 1} → statement M
-span-spec = tie.close (tie.spec shl-ma shl-mb sub-result add-result returns)
+pub span_spec : {M : Type 1} → statement M
+span_spec = tie.close (tie.spec shl-ma shl-mb sub-result add-result returns)

@@ -9,15 +9,15 @@ use borrow.Author.Rules.{rules}
 use Rattle.mask.proofs.with.Statement.{statement}
 use Rattle.mask.proofs.with.Tie as tie
 
-cast-result : tie.Need-overflow-cast-result
+cast-result : tie.Need-overflow_cast-result
 cast-result c = search rules
 
-shl-result : tie.Need-overflow-shl-result
+shl-result : tie.Need-overflow_shl-result
 shl-result c = search rules
 
 returns : tie.Need-returns
 returns c = λ k. let a = c.args in
     rw (shifted (a.n % 64) (omega arith)) (or_bit k a.mask (2 ^ (a.n % 64)) ∙ ap (λ (t : Bool). bit k a.mask || t) (power_bit (a.n % 64) k))
 
-pub with-spec : {M : Type 1} → statement M
-with-spec = tie.close (tie.spec cast-result shl-result returns)
+pub with_spec : {M : Type 1} → statement M
+with_spec = tie.close (tie.spec cast-result shl-result returns)
