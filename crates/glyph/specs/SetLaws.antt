@@ -1,7 +1,7 @@
 -- Mark sets two words at a time, what they have, and that a glyph above 65,535 is in none.
 use Rattle.std.specs.Prelude.{ℕ, zero, suc, ◌+◌, ◌*◌, ◌/◌, ◌≤◌, ◌<◌, List, [], ◌∷◌, ◌≡◌, refl, ◌↔◌, ◌⊎◌, Bool, true, false, ◌&&◌, ◌||◌, eqb, length, get_or, drop}
 use Rattle.std.proofs.Common.{sym, ap, ◌∙◌, inl, inr, ⊎_elim, true≢false, arith, add-one, eq-or-lt_of_le, ne_eqb, eq-eqb, eqb-true, drop_of_length-le, drop-cons}
-use Rattle.std.proofs.Math.Bool.{and-false, or_true, or-false, or_assoc}
+use Rattle.std.proofs.Math.Bool.{and-false, or-true, or-false, or_assoc}
 use Rattle.std.proofs.Math.Numerals.{add-two}
 use Rattle.glyph.specs.Sets.{in_set}
 
@@ -103,7 +103,7 @@ has (a ∷ b ∷ rest) s g (suc k) h x y =
     has rest s g k (omega arith)
     (ap (λ (n : ℕ). get_or (a ∷ b ∷ rest) n 0) e₀ ∙ x)
     (ap (λ (n : ℕ). get_or (a ∷ b ∷ rest) n 0) e₁ ∙ y) in
-    rw (later, or_true (eqb a s && eqb b g))
+    rw (later, or-true (eqb a s && eqb b g))
 
 pub in_set_lem : (xs : List ℕ) (s g : ℕ) → (in_set xs s g ≡ true) ↔ HasPair xs s g
 in_set_lem xs s g = (found xs s g, λ f. has xs s g f.at f.inside f.set f.glyph)
