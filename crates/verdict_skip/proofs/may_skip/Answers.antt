@@ -1,0 +1,15 @@
+-- Skip Yes is asked first, then Maybe, as in the definition. Assumes nothing.
+use Rattle.verdict.specs.Verdict.{skip_of}
+use Rattle.verdict_skip.proofs.may_skip.Goals as goal
+
+pub returns-then-is_skip_yes : goal.returns-then-is_skip_yes
+unfolding skip_of
+returns-then-is_skip_yes c = rw (← c.is_skip_yes.ensures, c.if-is_skip_yes.true)
+
+pub returns-then-is_ignorable : goal.returns-then-is_ignorable
+unfolding skip_of
+returns-then-is_ignorable c = rw (← c.is_skip_yes.ensures, c.if-is_skip_yes.false, ← c.is_ignorable.ensures, c.if-is_ignorable.true)
+
+pub returns : goal.returns
+unfolding skip_of
+returns c = rw (← c.is_skip_yes.ensures, c.if-is_skip_yes.false, ← c.is_ignorable.ensures, c.if-is_ignorable.false)
