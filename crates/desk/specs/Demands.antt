@@ -2,7 +2,7 @@
 -- rows that meet its contract, so of every call of it.
 use Rattle.std.specs.Prelude.{◌≡◌, refl, List, [], ◌∷◌, ◌↔◌, ℕ, ◌≤◌, ◌<◌, take}
 use Rattle.std.proofs.Common.{sym, ap, subst, ◌∙◌, inl}
-use Rattle.std.proofs.Math.Logic.{Iff·trans}
+use Rattle.std.proofs.Math.Logic.{Iff.trans}
 use Rattle.glyph.specs.Lossless.{Small}
 use Rattle.glyph.specs.Order.{RefusedBy}
 use Rattle.glyph.specs.Reply.{replies, number_in, has_values}
@@ -154,7 +154,7 @@ module _ (h : RanHanded) (allowance depth : ℕ) (l : RanLeft) (c : RanCalled h 
       let room = demand_1 (handed_by h) allowance depth below called in
       record {
         refused = λ n.
-            let r = Iff·trans (refused_as a a.ending refl n) (room.refused n) in (
+            let r = Iff.trans (refused_as a a.ending refl n) (room.refused n) in (
               λ s. r.0 (sym number_of ∙ s.0, s.1),
               λ s. let m = r.1 s in (number_of ∙ m.0, m.1),
             );

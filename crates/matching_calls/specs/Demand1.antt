@@ -3,7 +3,7 @@
 -- is filled but by a match.
 use Rattle.std.specs.Prelude.{ℕ, ◌≡◌, refl, List, [], ◌∷◌, ◌↔◌, ◌⊎◌, Bool, true, false, ◌&&◌, ◌||◌, eqb, leb, length, get_or}
 use Rattle.std.proofs.Common.{sym, ap, ◌∙◌, inl, inr, ⊎_elim, true≢false, arith}
-use Rattle.std.proofs.Math.Logic.{Iff·trans, Iff·symm}
+use Rattle.std.proofs.Math.Logic.{Iff.trans, Iff.symm}
 use Rattle.std.proofs.Math.Option.{some, some_inj, none-ne-some}
 use Rattle.std.proofs.Math.ListN.{take}
 use Rattle.glyph.specs.declared.Glyph.{Glyph}
@@ -128,8 +128,8 @@ module _ {X : Type 0} (done : List ℕ) (d : ℕ) (coming : List ℕ) (len idx :
       let fit = input_fit done d coming len idx sets n in
       let o = input_on lookup sets test (take d (glyphs_of done)) text idx values in
       record {
-        refused = λ k not5. Iff·trans (input_tells text idx fit o k not5) (table.input_refused done d coming len idx sets n k);
-        let_through = Iff·trans (Iff·symm (table.input_fits done d coming len idx sets n)) (input_numbers text idx fit o);
+        refused = λ k not5. Iff.trans (input_tells text idx fit o k not5) (table.input_refused done d coming len idx sets n k);
+        let_through = Iff.trans (Iff.symm (table.input_fits done d coming len idx sets n)) (input_numbers text idx fit o);
         empty = input_empty text idx fit o;
       }
 
@@ -142,8 +142,8 @@ module _ {X : Type 0} (done : List ℕ) (d : ℕ) (coming : List ℕ) (len idx :
       let fit = ahead_fit done d coming len idx start sets n in
       let o = ahead_on lookup sets test text start (get_or text idx blank).syllable values in
       record {
-        refused = λ k. Iff·trans (context_tells way start fit o k) (table.ahead_refused done d coming len idx sets n start k);
-        let_through = Iff·trans (Iff·symm (table.ahead_fits done d coming len idx sets n start)) (context_numbers way start fit o);
+        refused = λ k. Iff.trans (context_tells way start fit o k) (table.ahead_refused done d coming len idx sets n start k);
+        let_through = Iff.trans (Iff.symm (table.ahead_fits done d coming len idx sets n start)) (context_numbers way start fit o);
       }
 
   pub back_demand_1 : BackRefusals done d coming len idx sets (length values) (back_of done d coming len idx lookup sets test values)
@@ -154,6 +154,6 @@ module _ {X : Type 0} (done : List ℕ) (d : ℕ) (coming : List ℕ) (len idx :
       let fit = back_fit done d coming len idx sets n in
       let o = back_on lookup sets test row (get_or text idx blank).syllable values in
       record {
-        refused = λ k. Iff·trans (context_tells behind (length row) fit o k) (table.back_refused done d coming len idx sets n k);
-        let_through = Iff·trans (Iff·symm (table.back_fits done d coming len idx sets n)) (context_numbers behind (length row) fit o);
+        refused = λ k. Iff.trans (context_tells behind (length row) fit o k) (table.back_refused done d coming len idx sets n k);
+        let_through = Iff.trans (Iff.symm (table.back_fits done d coming len idx sets n)) (context_numbers behind (length row) fit o);
       }

@@ -4,7 +4,7 @@
 -- Said of any answer and rows that meet the contract of `run_calls::run`.
 use Rattle.std.specs.Prelude.{◌≡◌, refl, List, [], ◌↔◌, ℕ}
 use Rattle.std.proofs.Common.{sym, subst, ⊎_elim}
-use Rattle.std.proofs.Math.Logic.{Iff·trans}
+use Rattle.std.proofs.Math.Logic.{Iff.trans}
 use Rattle.glyph.specs.Order.{RefusedBy}
 use Rattle.text.specs.Text.{text_of, written}
 use Rattle.text.specs.Rows.{HoldsOnly, holds_only}
@@ -102,7 +102,7 @@ module _ (h : Handed) (a d : ℕ) (l : Left) (c : Called h a d l) where
       let k = checked_all h a d in
       let v = run_says h a d in
       record {
-        refused = λ n. Iff·trans (told_refused k v h.done h.coming l.done l.coming l.answer n c.said)
+        refused = λ n. Iff.trans (told_refused k v h.done h.coming l.done l.coming l.answer n c.said)
             (table.refused h a d c.book_words n);
         unchanged = same_rows k c.said;
         ended = (

@@ -2,7 +2,7 @@
 -- (Order); and a reply tells the case that it is of.
 use Rattle.std.specs.Prelude.{ℕ, ◌+◌, ◌≡◌, refl, List, [], ◌∷◌, ◌↔◌, ◌⊎◌, Bool, true, false, ◌||◌, ltb, length}
 use Rattle.std.proofs.Common.{sym, ap, ◌∙◌, inl, inr, ⊎_elim, true≢false, arith}
-use Rattle.std.proofs.Math.Logic.{Iff·trans}
+use Rattle.std.proofs.Math.Logic.{Iff.trans}
 use Rattle.std.proofs.Math.Option.{some, some_inj, none-ne-some}
 use Rattle.glyph.specs.Glyph.{glyphs_of, ill_shaped}
 use Rattle.glyph.specs.Laws.{well_shaped}
@@ -106,7 +106,7 @@ module _ (w : Walked) (bad : Bool) {W : Type 0} (good : (bad ≡ false) ↔ W) (
     (means : (r : Walked) → bad ≡ false → (w ≡ r) ↔ M r) where
   refused_by_lem : (n : ℕ) → (walk_reply w ≡ replies n []) ↔ RefusedBy n (record { number = 1; lets = W } ∷ [])
   refused_by_lem n =
-      Iff·trans (first w bad refused n) (refused_exactly (record { test = bad; line = record { number = 1; lets = W }; tells = good } ∷ []) n)
+      Iff.trans (first w bad refused n) (refused_exactly (record { test = bad; line = record { number = 1; lets = W }; tells = good } ∷ []) n)
 
   found_0 : (q : ℕ) → (walk_reply w ≡ replies 0 (q ∷ [])) ↔ (W × M (Found q))
   found_0 q = (

@@ -1,0 +1,11 @@
+use Rattle.std.proofs.Common.{◌≤◌}
+use Rattle.glyph.specs.Glyph.{glyphs_of}
+use Rattle.walk_stretch.specs.Stretch.{Crossed}
+use Rattle.walk_stretch.specs.Outside.{outside_at}
+use Rattle.walk_stretch.proofs.past_outside.Given as goal
+
+abbrev pub invariant-loop-rest : goal.invariant-loop-rest
+invariant-loop-rest l = (l.rest ≤ l.left) × Crossed (outside_at l.set l.sets (glyphs_of l.row)) l.back l.len l.left l.rest
+
+abbrev pub decreases-loop-rest : goal.decreases-loop-rest
+decreases-loop-rest l = l.rest
