@@ -1,5 +1,5 @@
 -- Laws of every and some, and the bits of a sum by bits, of a power, and of a run of ones.
-use Rattle.std.specs.Prelude.{Bool, not, cond, ◌&&◌, ◌||◌, ◌≡◌, eqb, ltb, leb}
+use Rattle.std.specs.Prelude.{Bool, not, ◌&&◌, ◌||◌, ◌≡◌, eqb, ltb, leb}
 use Rattle.std.proofs.Math.Bool.{true, false}
 use Rattle.std.proofs.Common.{true≢false, sym, ◌∙◌, eq-or-lt_of_le, lt_of_lt_of_le, le_of_lt, le_refl, pow-suc, one-mul, mul_assoc, add-one, pow_pos, pow-add, shr-shr, shl_exact, eq-eqb, ne_eqb, ltb-true, ltb-false, leb-true, leb-false, lt-ltb, le-ltb}
 use Rattle.std.proofs.Math.Path.{refl, ap}

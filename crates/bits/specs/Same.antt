@@ -1,5 +1,5 @@
 -- Numbers below 2 ^ n with the same n bits are the same, so that whoever says each bit has said the number.
-use Rattle.std.specs.Prelude.{Bool, true, false, not, ◌&&◌, ◌≡◌, refl, ◌↔◌, ℕ, zero, suc, ◌+◌, ◌-◌, ◌*◌, ◌/◌, ◌%◌, ◌^◌, ◌≤◌, ◌<◌, eqb}
+use Rattle.std.specs.Prelude.{Bool, true, false, not, ◌&&◌, ◌≡◌, refl, ◌↔◌, ℕ, zero, suc, ◌-◌, ◌*◌, ◌/◌, ◌%◌, ◌^◌, ◌<◌, eqb}
 use Rattle.std.proofs.Common.{true≢false, sym, ap, ◌∙◌, arith, lt_of_le_of_lt, div-one, mul_comm, pow-suc, pow_pos, eq-eqb, ne_eqb, lt-ltb}
 use Rattle.std.proofs.Math.Nat.{div-div-eq-div-mul}
 use Rattle.std.specs.Int.Bits.{bit_and}

@@ -2,7 +2,7 @@
 -- rows that meet its contract, so of every call of it.
 use Rattle.std.specs.Prelude.{◌≡◌, refl, List, [], ◌∷◌, ◌↔◌, ℕ, ◌≤◌, ◌<◌, take}
 use Rattle.std.proofs.Common.{sym, ap, subst, ◌∙◌, inl}
-use Rattle.std.proofs.Math.Logic.{Iff.trans}
+use mathlib.Core.Logic.Iff
 use Rattle.glyph.specs.Lossless.{Small}
 use Rattle.glyph.specs.Order.{RefusedBy}
 use Rattle.glyph.specs.Reply.{replies, number_in, has_values}

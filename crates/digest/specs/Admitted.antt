@@ -1,12 +1,11 @@
 -- What a digest is for: whatever was added to it is admitted, by whichever call, and two that have no bit in common
 -- in some mask admit no glyph in common. (01, port order 1.)
-use Rattle.std.specs.Prelude.{◌≡◌, ℕ, zero, suc, ◌+◌, ◌-◌, ◌*◌, ◌/◌, ◌%◌, ◌^◌, ◌<◌, ◌≤◌, Bool, true, false, cond, not, ◌&&◌, ◌||◌, ◌⊎◌, List, [], ◌∷◌, length, ◌==◌, ◌≢◌, nat_le, slice_index, refl}
+use Rattle.std.specs.Prelude.{◌≡◌, ℕ, zero, suc, ◌+◌, ◌-◌, ◌*◌, ◌/◌, ◌%◌, ◌^◌, ◌<◌, ◌≤◌, Bool, true, false, cond, ◌&&◌, ◌||◌, List, [], ◌∷◌, length, ◌==◌, ◌≢◌, nat_le, slice_index, refl}
 use Rattle.std.proofs.Common.{true≢false, sym, ap, ◌∙◌, ⊎_elim, arith, eq-or-lt_of_le, le_refl, mul-le-mul_right, add-mul, one-mul, div-mul-le_self, pow_pos, eq-eqb, le-leb, leb-true, leb-false}
 use Rattle.std.proofs.Math.Nat.{lt-div-mul-add}
 use Rattle.std.proofs.Math.Pow.{shr_mono}
 use Rattle.std.proofs.lemmas.Nat.{shr_le, shl-shr}
-use Rattle.std.proofs.lemmas.Bool.{lt-leb}
-use Rattle.bits.specs.Bits.{bit, every, some}
+use Rattle.bits.specs.Bits.{some}
 use Rattle.bits.specs.Laws.{and_left, and_right, and_both, or_left, or_right, every_at, every_so, some_at}
 use Rattle.mask.specs.Mask.{round}
 use Rattle.digest.specs.Digest.{Bits, shift, place, united, added, added_all, wide, ranged, may_have, may_intersect}

@@ -1,6 +1,6 @@
 -- A digest of a set of glyphs: three masks of 64 bits, at the shifts 4, 0 and 6. (01, port order 1; set_digest.rs.)
 -- Everything is said of bits: which bit k of which mask i is set.
-use Rattle.std.specs.Prelude.{◌≡◌, ℕ, ◌+◌, ◌-◌, ◌/◌, ◌%◌, ◌^◌, ◌<◌, Bool, true, false, cond, not, ◌&&◌, ◌||◌, List, [], ◌∷◌, ◌==◌, nat_le, slice_index}
+use Rattle.std.specs.Prelude.{◌≡◌, ℕ, ◌+◌, ◌-◌, ◌/◌, ◌%◌, ◌^◌, ◌<◌, Bool, true, false, not, ◌&&◌, ◌||◌, List, [], ◌∷◌, ◌==◌, nat_le, slice_index}
 use Rattle.bits.specs.Bits.{bit, every, some}
 use Rattle.mask.specs.Mask.{round}
 use Rattle.digest.specs.declared.SetDigest.{SetDigest}

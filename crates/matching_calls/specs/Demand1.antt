@@ -3,7 +3,7 @@
 -- is filled but by a match.
 use Rattle.std.specs.Prelude.{ℕ, ◌≡◌, refl, List, [], ◌∷◌, ◌↔◌, ◌⊎◌, Bool, true, false, ◌&&◌, ◌||◌, eqb, leb, length, get_or}
 use Rattle.std.proofs.Common.{sym, ap, ◌∙◌, inl, inr, ⊎_elim, true≢false, arith}
-use Rattle.std.proofs.Math.Logic.{Iff.trans, Iff.symm}
+use mathlib.Core.Logic.Iff
 use Rattle.std.proofs.Math.Option.{some, some_inj, none-ne-some}
 use Rattle.std.proofs.Math.ListN.{take}
 use Rattle.glyph.specs.declared.Glyph.{Glyph}

@@ -4,7 +4,7 @@
 -- Said of any answer and rows that meet the contract of `run_calls::run`.
 use Rattle.std.specs.Prelude.{◌≡◌, refl, List, [], ◌↔◌, ℕ}
 use Rattle.std.proofs.Common.{sym, subst, ⊎_elim}
-use Rattle.std.proofs.Math.Logic.{Iff.trans}
+use mathlib.Core.Logic.Iff
 use Rattle.glyph.specs.Order.{RefusedBy}
 use Rattle.text.specs.Text.{text_of, written}
 use Rattle.text.specs.Rows.{HoldsOnly, holds_only}

@@ -2,7 +2,7 @@
 -- (Order); and a reply tells the case that it is of.
 use Rattle.std.specs.Prelude.{ℕ, ◌+◌, ◌≡◌, refl, List, [], ◌∷◌, ◌↔◌, ◌⊎◌, Bool, true, false, ◌||◌, ltb, length}
 use Rattle.std.proofs.Common.{sym, ap, ◌∙◌, inl, inr, ⊎_elim, true≢false, arith}
-use Rattle.std.proofs.Math.Logic.{Iff.trans}
+use mathlib.Core.Logic.Iff
 use Rattle.std.proofs.Math.Option.{some, some_inj, none-ne-some}
 use Rattle.glyph.specs.Glyph.{glyphs_of, ill_shaped}
 use Rattle.glyph.specs.Laws.{well_shaped}

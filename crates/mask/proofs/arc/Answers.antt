@@ -14,7 +14,6 @@ returns-then-from-to c = λ k h. c.span.ensures k ∙ rw (le-leb _ _ c.if-from-t
 
 pub returns : goal.returns
 returns c =
-    
     λ k h.
     or_bit k c.span-2.result c.span-3.result
     ∙ rw (c.span-2.ensures k, c.span-3.ensures k, lt-leb _ _ c.if-from-to.false, le-leb k 63 (omega arith), leb-zero k)

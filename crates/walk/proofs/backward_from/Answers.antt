@@ -1,9 +1,9 @@
 -- The walk back from where it began is the walk back from after p, the next place to test: what is between was passed over. Each turn tests one
 -- place.
 -- Assumes nothing.
-use Rattle.std.proofs.Common.{ap, arith, get_or, max, refl, sym, ℕ, ⊎_elim, ◌+◌, ◌-◌, ◌∙◌, ◌≡◌}
-use borrow.Author.Tests.{not-false}
+use Rattle.std.proofs.Common.{ap, arith, get_or, max, refl, sym, ℕ, true, false, ◌+◌, ◌-◌, ◌∙◌, ◌≡◌}
 use Rattle.glyph.specs.Glyph.{glyphs_of, blank}
+use Rattle.glyph.specs.declared.Glyph.{Glyph}
 use Rattle.verdict.specs.declared.Verdict.{Verdict}
 use Rattle.verdict.specs.declared.Verdict.TheVariants.{Skip}
 use Rattle.verdict.specs.Verdict.{value_of, skip_yes, judge_at}
@@ -13,7 +13,7 @@ use Rattle.walk.specs.declared.Walked.TheVariants.{Stopped, RanOut}
 use Rattle.walk.specs.Walk.{on_verdict_back, walk_back}
 use Rattle.walk.specs.Steps.{back_on_by, back_end}
 use Rattle.walk.proofs.backward_from.Goals as goal
-use Rattle.walk.proofs.backward_from.Goals.{After-is_skip_yes, After-on_rest, Joined-not-is_skip_yes}
+use Rattle.walk.proofs.backward_from.Goals.{After-is_skip_yes, then-not-is_skip_yes+in-Skip, else-not-is_skip_yes}
 
 pub returns-then-place-eq0 : goal.returns-then-place-eq0
 returns-then-place-eq0 c = let a = c.args in
@@ -52,47 +52,51 @@ module _ (c : After-is_skip_yes) where
       let a = c.args in
       c.is_skip_yes.ensures ∙ ap (skip_yes a.m a.sets.now) c.read.ensures
 
--- what the rest says is the verdict
-module _ (c : After-on_rest) where
-  told : (r : Verdict) → c.on_rest.result ≡ r → judge c.before.before.before (tested c.before.before.before) ≡ r
-  told r e =
+  -- where the glyph isn't skipped, what the rest says of it is the verdict
+  told : (g : Glyph) (rest r : Verdict) → c.is_skip_yes.result ≡ false → g ≡ get_or (glyphs_of c.args.row.now) tested blank
+      → rest ≡ rest_of c.args.m (value_of c.args.sign c.args.lists.now) c.args.syllable g → rest ≡ r → judge tested ≡ r
+  told g rest r not_skipped read said e =
       let a = c.args in
       let gs = glyphs_of a.row.now in
-      judged_rest a.m (value_of a.sign a.lists.now) a.syllable a.sets.now gs (tested c) (get_or gs (tested c) blank)
-      c.is_skip_yes.result c.on_rest.result refl (asked c)
-      c.if-not-is_skip_yes.true
-      (c.on_rest.ensures ∙ ap (rest_of a.m (value_of a.sign a.lists.now) a.syllable) c.read-then-not-is_skip_yes.ensures)
+      judged_rest a.m (value_of a.sign a.lists.now) a.syllable a.sets.now gs tested (get_or gs tested blank)
+      c.is_skip_yes.result rest refl asked not_skipped
+      (said ∙ ap (rest_of a.m (value_of a.sign a.lists.now) a.syllable) read)
       ∙ e
 
+  -- where it is, it is passed over
+  skips : c.is_skip_yes.result ≡ true → judge tested ≡ Skip
+  skips skipped =
+      let a = c.args in
+      let gs = glyphs_of a.row.now in
+      judged_yes a.m (value_of a.sign a.lists.now) a.syllable a.sets.now gs tested (get_or gs tested blank)
+      c.is_skip_yes.result refl asked skipped
+
 pub returns-in-Match : goal.returns-in-Match
-returns-in-Match c = sym (turn (goal.at.returns-in-Match c).After-is_skip_yes _ (told (goal.at.returns-in-Match c).After-on_rest _ c.in-Match.is))
+returns-in-Match c =
+    let at_asked = (goal.at.returns-in-Match c).After-is_skip_yes in
+    sym (turn at_asked _ (told at_asked _ _ _ c.if-not-is_skip_yes.true c.read-then-not-is_skip_yes.ensures c.on_rest.ensures c.in-Match.is))
 
 pub returns-in-NotMatch : goal.returns-in-NotMatch
 returns-in-NotMatch c =
-    ap Stopped c.back_extent.ensures ∙ sym (turn (goal.at.returns-in-NotMatch c).After-is_skip_yes _ (told (goal.at.returns-in-NotMatch c).After-on_rest _ c.in-NotMatch.is))
-
--- where a turn comes to its end the place was passed over, whichever way it came
-module _ (c : Joined-not-is_skip_yes) where
-  skipped : judge c.before (tested c.before) ≡ Skip
-  skipped =
-      ⊎_elim
-      (λ w. told (record { before = record { before = record { before = c; if2 = w.0 }; read2 = w.1 }; on-rest = w.2 }) Skip w.4.given.1)
-      (λ w.
-      let a = c.args in
-      let gs = glyphs_of a.row.now in
-      judged_yes a.m (value_of a.sign a.lists.now) a.syllable a.sets.now gs (tested c) (get_or gs (tested c) blank)
-      c.is_skip_yes.result refl (asked c)
-      (not-false c.is_skip_yes.result w.left))
-      c.if-not-is_skip_yes.branch
-
-  passed : walk_back (judge c.before) c.args.place
-      ≡ walk_back (judge c.before) (tested c.before)
-  passed = turn c.before Skip skipped
+    let at_asked = (goal.at.returns-in-NotMatch c).After-is_skip_yes in
+    ap Stopped c.back_extent.ensures
+    ∙ sym (turn at_asked _ (told at_asked _ _ _ c.if-not-is_skip_yes.true c.read-then-not-is_skip_yes.ensures c.on_rest.ensures c.in-NotMatch.is))
 
 pub returns-then-p-eq0 : goal.returns-then-p-eq0
-returns-then-p-eq0 c = sym (passed (goal.at.returns-then-p-eq0 c).Joined-not-is_skip_yes ∙ back_end (judge (goal.at.returns-then-p-eq0 c).After-is_skip_yes) (tested (goal.at.returns-then-p-eq0 c).After-is_skip_yes) c.if-p-eq0.true)
+returns-then-p-eq0 c =
+    let at_asked = (goal.at.returns-then-p-eq0 c).After-is_skip_yes in
+    let skipped : judge at_asked (tested at_asked) ≡ Skip = elim c.if-not-is_skip_yes.branch [
+      then-not-is_skip_yes+in-Skip w ↦ told at_asked _ _ _ w.if-not-is_skip_yes.true w.read-then-not-is_skip_yes.ensures w.on_rest.ensures w.in-Skip.is
+    | else-not-is_skip_yes w ↦ skips at_asked w.if-not-is_skip_yes.false
+    ] in
+    sym (turn at_asked Skip skipped ∙ back_end (judge at_asked) (tested at_asked) c.if-p-eq0.true)
 
 pub loop-m-preserved : goal.loop-m-preserved
 loop-m-preserved c =
-    let s : tested (goal.at.loop-m-preserved c).After-is_skip_yes ≡ tested (goal.at.loop-m-preserved c).After-is_skip_yes - 1 + 1 = omega arith in
-    (omega arith, passed (goal.at.loop-m-preserved c).Joined-not-is_skip_yes ∙ ap (walk_back (judge (goal.at.loop-m-preserved c).After-is_skip_yes)) s)
+    let at_asked = (goal.at.loop-m-preserved c).After-is_skip_yes in
+    let skipped : judge at_asked (tested at_asked) ≡ Skip = elim c.if-not-is_skip_yes.branch [
+      then-not-is_skip_yes+in-Skip w ↦ told at_asked _ _ _ w.if-not-is_skip_yes.true w.read-then-not-is_skip_yes.ensures w.on_rest.ensures w.in-Skip.is
+    | else-not-is_skip_yes w ↦ skips at_asked w.if-not-is_skip_yes.false
+    ] in
+    let s : tested at_asked ≡ tested at_asked - 1 + 1 = omega arith in
+    (omega arith, turn at_asked Skip skipped ∙ ap (walk_back (judge at_asked)) s)

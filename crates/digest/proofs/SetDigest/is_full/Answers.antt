@@ -1,5 +1,5 @@
 -- A turn tests one full mask more. Assumes nothing.
-use Rattle.std.proofs.Common.{true, not, ap, get_or, sym, ◌∙◌, arith}
+use Rattle.std.proofs.Common.{not, ap, get_or, sym, ◌∙◌, arith}
 use Rattle.bits.specs.Bits.{bit, every}
 use Rattle.bits.specs.Laws.{every_not}
 use Rattle.bits.specs.Laws.{every_none, every_more, every_done}
