@@ -150,7 +150,7 @@ fn coming_count(b: &[u8]) -> u16
 }
 
 // Where done's records begin, and coming's.
-pub fn done_at_lem(b: &[u8]) -> usize
+pub fn done_at(b: &[u8]) -> usize
     ensures { (result ≡ done_at b.now) × (result ≤ 1040) }
 {
     counts_at(b) + 4
@@ -159,7 +159,7 @@ pub fn done_at_lem(b: &[u8]) -> usize
 pub fn coming_at(b: &[u8]) -> usize
     ensures { (result ≡ coming_at b.now) × (result ≤ 1040 + 4 * (words * 65535)) }
 {
-    done_at_lem(b) + 4 * (glyph::WORDS * done_count(b) as usize)
+    done_at(b) + 4 * (glyph::WORDS * done_count(b) as usize)
 }
 
 // No other settings bits, the limits, and no byte too few or too many.
