@@ -28,7 +28,7 @@ rises_at (suc i) h (next p a b r) = let q = rises_at i (omega arith) r in (omega
 pub rises_drop : {low end : ℕ} {ps : List ℕ} (n : ℕ) → Rises low end ps → Rises (low + n) end (drop n ps)
 rises_drop {low} {end} zero r = rises_wider (low + 0) end (omega arith) (omega arith) r
 rises_drop (suc n) no_position = no_position
-rises_drop {low} {end} (suc n) (next p a b r) = rises_wider (low + suc n) end (omega arith) (omega arith) (rises_drop n r)
+rises_drop {low} {end} (suc n) (next p a b r) = rises_wider (low + suc n) end (omega arith) (omega arith) (rises_drop {low = p + 1} n r)
 
 rises_up : {low end : ℕ} {ps : List ℕ} (n : ℕ) → Rises low end ps → Rises (low + n) (end + n) (map (λ p. p + n) ps)
 rises_up n no_position = no_position
