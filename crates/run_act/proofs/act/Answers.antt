@@ -4,31 +4,30 @@ use Rattle.book.specs.Book.{most_ids}
 use Rattle.book.specs.Inside.{PartInside}
 use Rattle.run_act.specs.Laws.{limit_most}
 use Rattle.run_act.proofs.act.Goals as goal
-use Rattle.run_act.proofs.act.Goals.{After-act_many-arg-in-Many-1}
+use Rattle.run_act.proofs.act.Goals.{In-Many}
 
 -- the ids of the entry
-module _ (c : After-act_many-arg-in-Many-1) where
-  ids-inside : PartInside (length c.args.book.now) most_ids
+module _ (c : In-Many) where
+  ids_inside : PartInside (length c.args.book.now) most_ids
       c.in-Many.ids
-  ids-inside =
-      
-      rw c.in-Many.is at c.requires.2
+  ids_inside = rw c.in-Many.is at c.requires.2
 
 pub offset_bounds-book-a : goal.offset_bounds-book-a
-offset_bounds-book-a c = omega (arith, (ids-inside c).ordered, (ids-inside c).within)
+offset_bounds-book-a c = omega (arith, (ids_inside (goal.at.offset_bounds-book-a c).In-Many).ordered, (ids_inside (goal.at.offset_bounds-book-a c).In-Many).within)
 
 pub slice_bounds-act_many-count : goal.slice_bounds-act_many-count
-slice_bounds-act_many-count c = (ids-inside c).ordered
+slice_bounds-act_many-count c = (ids_inside (goal.at.slice_bounds-act_many-count c).In-Many).ordered
 
 pub slice_bounds-act_many-start : goal.slice_bounds-act_many-start
-slice_bounds-act_many-start c = omega (arith, (ids-inside c).ordered, (ids-inside c).within)
+slice_bounds-act_many-start c = omega (arith, (ids_inside (goal.at.slice_bounds-act_many-start c).In-Many).ordered, (ids_inside (goal.at.slice_bounds-act_many-start c).In-Many).within)
 
 pub slice_bounds-act_many-end : goal.slice_bounds-act_many-end
-slice_bounds-act_many-end c = omega (arith, (ids-inside c).ordered, (ids-inside c).within)
+slice_bounds-act_many-end c = omega (arith, (ids_inside (goal.at.slice_bounds-act_many-end c).In-Many).ordered, (ids_inside (goal.at.slice_bounds-act_many-end c).In-Many).within)
 
 pub act_many-requires : goal.act_many-requires
 act_many-requires c =
-    (c.requires.0, c.requires.1, simp (length-take, length-drop) (omega (arith, limit_most, (ids-inside (goal.at.act_many-requires c).After-act_many-arg-in-Many-1).few)))
+    let few = (ids_inside (goal.at.act_many-requires c).In-Many).few in
+    (c.requires.0, c.requires.1, simp (length-take, length-drop) (omega (arith, limit_most, few)))
 
 pub returns-in-One : goal.returns-in-One
 returns-in-One c = rw c.in-One.is c.act_one.ensures
