@@ -1,8 +1,8 @@
 -- Demand 1 of the three calls, in 01's numbers (01, "When the desk says no"): refused by 1, 2, 3 or 6 exactly when that line refuses and no line
 -- before it does, and nothing else is refused: what no line refuses is matched, or lost by 4, or by 5 (which of these, and when: Promises). No slot
 -- is filled but by a match.
-use Rattle.std.specs.Prelude.{ℕ, ◌≡◌, refl, List, [], ◌∷◌, ◌↔◌, ◌⊎◌, Bool, true, false, ◌&&◌, ◌||◌, eqb, leb, length, get_or}
-use Rattle.std.proofs.Common.{sym, ap, ◌∙◌, inl, inr, ⊎_elim, true≢false, arith}
+use Rattle.std.specs.Prelude.{ℕ, ◌≡◌, refl, List, [], ◌↔◌, ◌⊎◌, Bool, true, false, ◌&&◌, ◌||◌, eqb, leb, length, get_or}
+use Rattle.std.proofs.Common.{sym, ap, inl, inr, ⊎_elim, true≢false}
 use mathlib.Core.Logic.Iff
 use Rattle.std.proofs.Math.Option.{some, some_inj, none-ne-some}
 use Rattle.std.proofs.Math.ListN.{take}
@@ -21,7 +21,7 @@ use Rattle.matching.specs.Matchers.{input_on, ahead_on, back_on, backward_glyphs
 use Rattle.matching.specs.Answers.{slotted, input_told, context_told, refusal_number, input_reply, context_reply}
 use Rattle.matching_refuse.specs.Fit.{input_fit, ahead_fit, back_fit, fit_number}
 use Rattle.matching_calls.specs.Calls.{input_unless, context_unless, input_of, ahead_of, back_of}
-use Rattle.glyph.specs.Reply.{Reply, replies, number_in, has_values, apart_by}
+use Rattle.glyph.specs.Reply.{replies, number_in, has_values, apart_by}
 use Rattle.matching_calls.specs.Lines.{input_lines, InputAcceptable, ahead_lines, AheadAcceptable, back_lines, BackAcceptable}
 use Rattle.matching_calls.specs.Table as table
 

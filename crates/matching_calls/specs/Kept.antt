@@ -1,25 +1,21 @@
 -- The calls keep demand 2: what no line of 01's table refuses is answered as the promises say. The reply of an outcome tells the outcome.
-use Rattle.std.specs.Prelude.{ℕ, ◌+◌, ◌-◌, ◌≡◌, List, [], ◌∷◌, Bool, ◌↔◌, length, get_or, take, replicate}
+use Rattle.std.specs.Prelude.{ℕ, ◌+◌, ◌-◌, ◌≡◌, List, [], ◌∷◌, Bool, ◌↔◌, length, take, replicate}
 use Rattle.std.proofs.Math.Path.{refl}
 use Rattle.std.proofs.Common.{sym, ap, ◌∙◌, arith, take_at}
 use Rattle.glyph.specs.declared.Glyph.{Glyph}
-use Rattle.glyph.specs.Glyph.{glyphs_of, blank}
+use Rattle.glyph.specs.Glyph.{glyphs_of}
 use Rattle.glyph.specs.Reply.{Reply}
 use Rattle.verdict.specs.Verdict.{Asked}
 use Rattle.verdict.specs.declared.Verdict.{Verdict}
 use Rattle.matching.specs.declared.Terms.{Terms}
-use Rattle.matching.specs.declared.Refusal.{Refusal}
-use Rattle.matching.specs.declared.InputAnswer.{InputAnswer}
-use Rattle.matching.specs.declared.InputMatch.{InputMatch}
-use Rattle.matching.specs.declared.ContextMatch.{ContextMatch}
 use Rattle.matching.specs.Take.{slots, Way, ahead, behind, Outcome, taken, lost, unlike, takes, reached}
 use Rattle.matching.specs.Matchers.{judge, anywhere, context_matcher_of, input_by, input_on, ahead_on, back_on, backward_glyphs}
-use Rattle.matching.specs.Answers.{slotted, without, total_of, input_told, context_told, input_reply, context_reply}
+use Rattle.matching.specs.Answers.{slotted, total_of, input_told, context_told, input_reply, context_reply}
 use Rattle.matching.specs.Demand2.{Loses}
 use Rattle.matching.specs.Demand2Laws.{demand_2, never_turned}
 use Rattle.glyph.specs.Reply.{replies}
 use Rattle.matching.specs.Promises.{input_success, InputPromise, Leads, ContextPromise, input_judge, input_rule, context_judge}
-use Rattle.matching_calls.specs.Calls.{input_unless, context_unless, input_of, ahead_of, back_of}
+use Rattle.matching_calls.specs.Calls.{input_of, ahead_of, back_of}
 use Rattle.matching_calls.specs.Lines.{InputAcceptable, AheadAcceptable, BackAcceptable}
 use Rattle.matching_calls.specs.Table.{input_fits, ahead_fits, back_fits}
 

@@ -144,7 +144,8 @@ module _ (done : List ℕ) (d : ℕ) (coming : List ℕ) (len idx : ℕ) (sets :
     ahead_first = four (bad || ltb len start) (leb len idx) (ltb slots values) (eqb start 0)
 
     pub ahead_refused : (n : ℕ)
-        → (fit_number (ahead_fit done d coming len idx start sets values) ≡ some n) ↔ RefusedBy n (ahead_lines done d coming len idx sets values start)
+        → (fit_number (ahead_fit done d coming len idx start sets values) ≡ some n)
+        ↔ RefusedBy n (ahead_lines done d coming len idx sets values start)
     ahead_refused = refused_by_lem (ahead_fit done d coming len idx start sets values) ahead_tests ahead_first
 
     pub ahead_fits : (ahead_fit done d coming len idx start sets values ≡ Fit.Fits) ↔ AheadAcceptable done d coming len idx sets values start

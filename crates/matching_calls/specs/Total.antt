@@ -63,7 +63,9 @@ module _ {X : Type 0} (done : List ℕ) (d : ℕ) (coming : List ℕ) (len idx :
       → (input_told text idx o).answer ≡ InputAnswer.Matched end total → total ≤ 16320
   most_by (taken qs) end total few e m =
       let t : total_of text idx qs ≡ total = cc in
-      let n = as_many (((demand_2 _ _ _ _ values).accepted qs).0 (sym (input_takes lookup sets test (take d (glyphs_of done)) text idx values) ∙ e)) in
+      let n =
+      as_many (((demand_2 _ _ _ _ values).accepted qs).0
+      (sym (input_takes lookup sets test (take d (glyphs_of done)) text idx values) ∙ e)) in
       let a = (text_counted coming len idx).whole in
       let b = ligated_most text (text_counted coming len) qs in
       omega arith
@@ -71,7 +73,8 @@ module _ {X : Type 0} (done : List ℕ) (d : ℕ) (coming : List ℕ) (len idx :
   most_by unlike end total few e m = let z : ◌≡◌ {A = ℕ} 0 1 = cc in absurd (omega arith)
 
   fit_by : (f : Fit) (end total : ℕ) → input_fit done d coming len idx sets (length values) ≡ f
-      → (input_unless f (input_told text idx (input_on lookup sets test (take d (glyphs_of done)) text idx values))).answer ≡ InputAnswer.Matched end total
+      → (input_unless f (input_told text idx (input_on lookup sets test (take d (glyphs_of done)) text idx values))).answer
+      ≡ InputAnswer.Matched end total
       → total ≤ 16320
   fit_by Fit.Fits end total e m =
       let few = ((input_fits done d coming len idx sets (length values)).0 e).few in

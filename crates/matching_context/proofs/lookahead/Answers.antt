@@ -1,12 +1,13 @@
 -- The answer from the start with all values is the answer from start + next with the values left. Each turn takes one: the walk over the
 -- part from the start on is the walk over the whole text, counted from the start. Assumes nothing.
-use Rattle.std.proofs.Common.{add-zero, add_assoc, ap, arith, drop, get_or, length, length-drop, sym, ℕ, ◌+◌, ◌<◌, ◌^◌, ◌∙◌, ◌≡◌, ◌≤◌}
+use Rattle.std.proofs.Common.{List, add-zero, add_assoc, ap, arith, drop, get_or, length, length-drop, sym, ℕ, ◌+◌, ◌∙◌, ◌≡◌, ◌≤◌}
+use Rattle.glyph.specs.declared.Glyph.{Glyph}
 use Rattle.glyph.specs.Glyph.{glyphs_of}
 use Rattle.glyph.specs.Laws.{length-glyphs_of}
 use Rattle.verdict.specs.declared.Verdict.{Verdict}
 use Rattle.verdict.specs.Verdict.{Asked, value_by, judge_at}
 use Rattle.walk.specs.declared.Walked.{Walked}
-use Rattle.walk.specs.declared.Walked.TheVariants.{Found, RanOut, Refused}
+use Rattle.walk.specs.declared.Walked.TheVariants.{Found, RanOut, Refused, Stopped}
 use Rattle.walk.specs.Parts.{raised}
 use Rattle.matching.specs.Take.{ahead}
 use Rattle.matching.specs.Matchers.{judge, ahead_on}
@@ -21,8 +22,11 @@ loop-i-init c = let a = c.args in (
   rw (add-zero a.start),
 )
 
-few : (s : tie.Start invariant-loop decreases-loop) → length s.args.values.now < 2 ^ 64
-few s = omega arith
+-- the part from the start on ends within the text
+fits : (start len : ℕ) (text : List ℕ) (part : List Glyph) → part ≡ drop start (glyphs_of text) → len ≡ length part
+    → start ≤ length (glyphs_of text) → start + len ≤ length text
+fits start len text part onward count within =
+    omega (arith, ap length onward, length-drop start (glyphs_of text), length-glyphs_of text)
 
 -- after the walk of a turn
 module _ (c : After-forward_from) where
@@ -38,8 +42,6 @@ module _ (c : After-forward_from) where
       told (ahead len) on a.start a.values.now
       ≡ told_by (ahead len) on (raised a.start r) (drop (c.loop-i.i + 1) a.values.now)
   whole r e =
-      
-      
       let a = c.args in
       let l = c.loop-i in
       let gs = glyphs_of a.text.now in
@@ -52,8 +54,6 @@ module _ (c : After-forward_from) where
 
   inside : (r : Walked) → c.forward_from.result ≡ r → WalkWithin c.count-len.result r
   inside r e =
-      let c = c.before.before.before in
-      let c = c.before.before.before in
       let a = c.args in
       let l = c.loop-i in
       let sign : Asked = value_by a.test a.lists.now (get_or a.values.now l.i 0) in
@@ -61,39 +61,18 @@ module _ (c : After-forward_from) where
       (glyphs_of c.onward-onward.result.now))
       c.count-len.result l.next r l.invariant.0 (sym e ∙ c.forward_from.ensures)
 
-  fits :
-      let c = c.before.before.before.before in
-      let c = c.before.before.before.before.before.before.before in
-      c.args.start + c.count-len.result ≤ length c.args.text.now
-  fits =
-      let c = c.before.before.before.before in
-      let c = c.before.before.before.before.before.before.before in
-      let a = c.args in
-      let pre = c.requires in
-      omega (
-        arith,
-        ap length c.onward-onward.ensures,
-        length-drop a.start (glyphs_of a.text.now),
-        length-glyphs_of a.text.now,
-        c.count-len.ensures,
-      )
-
 pub overflow_add-next : goal.overflow_add-next
-overflow_add-next c = let l = inside (goal.at.overflow_add-next c).After-forward_from (Found c.in-Found.q) c.in-Found.is in
-    omega (arith, fits (goal.at.overflow_add-next c).After-forward_from)
-
-pub overflow_add-i : goal.overflow_add-i
-overflow_add-i c =
+overflow_add-next c =
+    let l = inside (goal.at.overflow_add-next c).After-forward_from (Found c.in-Found.q) c.in-Found.is in
     omega (
       arith,
-      few (goal.at.overflow_add-i c).After-shared_slice_known-4-1,
-      c.loop-i-test.true,
+      fits c.args.start c.count-len.result c.args.text.now _ c.onward-onward.ensures c.count-len.ensures c.requires,
     )
 
 pub loop-i-preserved : goal.loop-i-preserved
 loop-i-preserved c =
     let q = c.in-Found.q in (
-      let l = inside (goal.at.loop-i-preserved c).After-forward_from (Found q) c.in-Found.is in omega arith,
+      (let l = inside (goal.at.loop-i-preserved c).After-forward_from (Found q) c.in-Found.is in omega arith),
       whole (goal.at.loop-i-preserved c).After-forward_from (Found q) c.in-Found.is
           ∙ ap (λ (n : ℕ). told (ahead (length (glyphs_of c.args.text.now))) (on (goal.at.loop-i-preserved c).After-forward_from) n
           (drop (c.loop-i.i + 1) c.args.values.now))
@@ -106,8 +85,27 @@ returns-in-Stopped c =
     rw (← c.matcher_of-matcher.ensures) (sym (whole (goal.at.returns-in-Stopped c).After-forward_from _ c.in-Stopped.is))
 
 pub overflow_add-result : goal.overflow_add-result
-overflow_add-result c = let l = inside (goal.at.overflow_add-result c).After-forward_from (RanOut c.in-RanOut.extent) c.in-RanOut.is in
-    omega (arith, fits (goal.at.overflow_add-result c).After-forward_from)
+overflow_add-result c =
+    let l = inside (goal.at.overflow_add-result c).After-forward_from (Stopped c.in-Stopped.extent) c.in-Stopped.is in
+    omega (
+      arith,
+      fits c.args.start c.count-len.result c.args.text.now _ c.onward-onward.ensures c.count-len.ensures c.requires,
+    )
+
+pub overflow_add-result-in-RanOut : goal.overflow_add-result-in-RanOut
+overflow_add-result-in-RanOut c =
+    let l = inside (goal.at.overflow_add-result-in-RanOut c).After-forward_from (RanOut c.in-RanOut.extent) c.in-RanOut.is in
+    omega (
+      arith,
+      fits c.args.start c.count-len.result c.args.text.now _ c.onward-onward.ensures c.count-len.ensures c.requires,
+    )
+
+pub overflow_add-result-2 : goal.overflow_add-result-2
+overflow_add-result-2 c =
+    omega (
+      arith,
+      fits c.args.start c.count-len.result c.args.text.now _ c.onward-onward.ensures c.count-len.ensures c.requires,
+    )
 
 pub returns-in-RanOut : goal.returns-in-RanOut
 unfolding ahead_on

@@ -7,9 +7,11 @@ use Rattle.matching.specs.Going.{told}
 use Rattle.matching_context.proofs.lookahead.Given as goal
 
 abbrev pub invariant-loop-i : goal.invariant-loop-i
-invariant-loop-i l = (l.next ≤ l.len)
+invariant-loop-i l =
+    (l.next ≤ l.len)
     × (told (ahead (length (glyphs_of l.text))) (judge l.matcher l.sets (value_by l.test l.lists) l.syllable (glyphs_of l.text)) l.start l.values
-    ≡ told (ahead (length (glyphs_of l.text))) (judge l.matcher l.sets (value_by l.test l.lists) l.syllable (glyphs_of l.text)) (l.start + l.next) (drop l.i l.values))
+    ≡ told (ahead (length (glyphs_of l.text))) (judge l.matcher l.sets (value_by l.test l.lists) l.syllable (glyphs_of l.text))
+    (l.start + l.next) (drop l.i l.values))
 
 abbrev pub decreases-loop-i : goal.decreases-loop-i
 decreases-loop-i l = length l.values - l.i
