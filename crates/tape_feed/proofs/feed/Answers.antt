@@ -9,16 +9,19 @@ loop-at-init c = let r = c.requires in
 
 pub returns-then-out-written-lt-MOST_ANSWER : goal.returns-then-out-written-lt-MOST_ANSWER
 returns-then-out-written-lt-MOST_ANSWER c = let l = c.loop-at in
-    let a = c.args in (
-      leads_end a.piece.now a.from (take a.n a.kept.now) a.out.now a.m l.at (take l.held l.auto) l.out l.written
+    let a = c.args in record {
+      feeds = leads_end a.piece.now a.from (take a.n a.kept.now) a.out.now a.m l.at (take l.held l.kept) l.out l.written
           l.invariant.5
-          (taken_full a.piece.now l.at (length l.out - l.written) (take l.held l.auto) c.loop-at-test.true
-          c.if-out-written-lt-MOST_ANSWER.true),
-      (
-        (⊎_elim (λ h. h) (λ h. absurd (omega (arith, h, c.if-out-written-lt-MOST_ANSWER.true))) l.invariant.6, l.invariant.0, l.invariant.1, omega (arith, l.invariant.3, l.invariant.4)),
-        λ h. omega (arith, c.if-out-written-lt-MOST_ANSWER.true, l.invariant.3, l.invariant.4),
-      ),
-    )
+          (taken_full a.piece.now l.at (length l.out - l.written) (take l.held l.kept) c.loop-at-test.true
+          c.if-out-written-lt-MOST_ANSWER.true);
+      from_lt_at = (
+        ⊎_elim (λ h. h) (λ h. absurd (omega (arith, h, c.if-out-written-lt-MOST_ANSWER.true))) l.invariant.6,
+        l.invariant.0,
+        l.invariant.1,
+        omega (arith, l.invariant.3, l.invariant.4),
+      );
+      out_len_bound = λ h. omega (arith, c.if-out-written-lt-MOST_ANSWER.true, l.invariant.3, l.invariant.4);
+    }
 
 pub loop-at-preserved : goal.loop-at-preserved
 loop-at-preserved c =
@@ -26,16 +29,16 @@ loop-at-preserved c =
     let l = c.loop-at in
     let t = c.take_byte-t in (
       omega (arith, c.loop-at-test.true),
-      t.ensures.puts.1.0,
+      t.ensures.kept_le_most_kept.0,
       t.auto.kept ∙ l.invariant.2,
-      t.auto.out.1.0 ∙ l.invariant.3,
-      omega (arith, t.ensures.puts.1.1, t.auto.out.1.0),
+      t.auto.out ∙ l.invariant.3,
+      omega (arith, t.ensures.kept_le_most_kept.1, t.auto.out),
       leads_on a.piece.now a.from (take a.n a.kept.now) a.out.now a.m l.at
-          (take l.held l.auto) l.out l.written
-          (take t.result.kept t.new.kept) t.new.out.1.0 t.result.written
+          (take l.held l.kept) l.out l.written
+          (take t.result.kept t.new.kept) t.new.out t.result.written
           c.loop-at-test.true
           c.if-out-written-lt-MOST_ANSWER.false
-          t.ensures.kept_after t.ensures.puts.0 t.auto.out.1.0 t.ensures.puts.1.1 l.invariant.5,
+          t.ensures.kept_after t.ensures.puts t.auto.out t.ensures.kept_le_most_kept.1 l.invariant.5,
       inl (omega (arith, l.invariant.7)),
       omega (arith, l.invariant.7),
     )
@@ -44,12 +47,10 @@ pub returns : goal.returns
 returns c =
     let l = c.loop-at in
     let a = c.args in
-    let r = c.requires in (
-      leads_end a.piece.now a.from (take a.n a.kept.now) a.out.now a.m l.at (take l.held l.auto) l.out l.written
+    let r = c.requires in record {
+      feeds = leads_end a.piece.now a.from (take a.n a.kept.now) a.out.now a.m l.at (take l.held l.kept) l.out l.written
           l.invariant.5
-          (taken_all a.piece.now l.at (length l.out - l.written) (take l.held l.auto) c.loop-at-test.false),
-      (
-        (omega (arith, r.0), l.invariant.0, l.invariant.1, omega (arith, l.invariant.3, l.invariant.4)),
-        λ h. absurd (omega (arith, h, c.loop-at-test.false)),
-      ),
-    )
+          (taken_all a.piece.now l.at (length l.out - l.written) (take l.held l.kept) c.loop-at-test.false);
+      from_lt_at = (omega (arith, r.0), l.invariant.0, l.invariant.1, omega (arith, l.invariant.3, l.invariant.4));
+      out_len_bound = λ h. absurd (omega (arith, h, c.loop-at-test.false));
+    }
