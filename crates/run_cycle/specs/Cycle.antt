@@ -1,7 +1,7 @@
 -- Laws of the two functions in a cycle: the entry that was found is the book's lookup, and what the code does with an entry is that lookup's deed.
 use Rattle.std.proofs.Math.Path.{◌≡◌, refl}
 use Rattle.std.proofs.Common.{sym, ap, subst, ◌∙◌, arith, length-take, length-drop}
-use Rattle.std.specs.Prelude.{Bool, true, false, List, ℕ, ◌-◌, ◌*◌, ◌≤◌, ◌<◌, length}
+use Rattle.std.specs.Prelude.{true, false, List, ℕ, ◌*◌, ◌≤◌, ◌<◌, length}
 use Rattle.text.specs.Text.{text_of}
 use Rattle.book.specs.declared.Entry.{Entry}
 use Rattle.book.specs.declared.Part.{Part}

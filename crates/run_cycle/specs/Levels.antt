@@ -1,6 +1,6 @@
 -- The code's side: what a level of the run may count on and leaves, as the code keeps it.
-use Rattle.std.specs.Prelude.{◌≡◌, true, List, [], ℕ}
-use Rattle.book.specs.Book.{Lookup, Reading, Reads, Unreadable, read_book, lookups_of}
+use Rattle.std.specs.Prelude.{◌≡◌, true, List, ℕ}
+use Rattle.book.specs.Book.{Reads, read_book, lookups_of}
 use Rattle.book.specs.Places.{index_of}
 use Rattle.run.specs.Run.{Stage}
 use Rattle.run_positions.specs.Slots.{shown}

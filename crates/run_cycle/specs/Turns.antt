@@ -1,22 +1,21 @@
 -- A turn of the record loop: what the code makes of the rows, the state and the level is the definition's step, and what it counts on stays.
-use Rattle.std.specs.Prelude.{◌≡◌, Bool, true, false, cond, not, length, get_or, take, drop}
+use Rattle.std.specs.Prelude.{◌≡◌, Bool, true, false, cond, not, length, get_or, drop}
 use Rattle.std.proofs.Math.Path.{refl, sym, ap}
 use Rattle.std.proofs.Common.{ap₂, subst, ◌∙◌, arith}
-use mathlib.Core.List.{List, [], ◌∷◌}
+use mathlib.Core.List.{List}
 use Prim.Native.Nat.{ℕ, zero, suc, ◌+◌, ◌-◌, ◌≤◌, ◌<◌}
 use Rattle.glyph.specs.Glyph.{limit}
 use Rattle.text.specs.Text.{Text, text_of, size_of, moved_to, Fits}
 use Rattle.text.specs.Changes.{size_is}
 use Rattle.text.specs.Laws.{sizes}
-use Rattle.book.specs.Book.{Record, Lookup, records_of, lookups_of}
+use Rattle.book.specs.Book.{Record, records_of, lookups_of}
 use Rattle.book.specs.Records.{records_step, records_end}
 use Rattle.run.specs.declared.Given.{Given}
 use Rattle.run.specs.Repair.{Level, repaired, Sound}
-use Rattle.run.specs.Run.{Run, Stage, Effect, size, changed, when, place_of, is_due, is_over, arrived, spending}
+use Rattle.run.specs.Run.{Run, Stage, Effect, size, changed, when, place_of, is_due, is_over, arrived}
 use Rattle.run.specs.Run.{followed_by, tried_by, due_by, step_by, records_by, closed, acting, mending, chain_run, lookup_run, most_allowance}
 use Rattle.run.specs.Rises.{repaired_mends}
-use Rattle.run.specs.Kept as kept
-use Rattle.run.specs.Kept.{Kept, Keeps, Due, step_good, lookup_keeps, due_shows, records_good}
+use Rattle.run.specs.Kept.{Keeps, Due, step_good, lookup_keeps, due_shows}
 use Rattle.run.specs.Tries.{Adds, step_adds, lookup_adds}
 use Rattle.run.specs.Deeds.{ruled}
 use Rattle.run_positions.specs.declared.Slots.{Slots}

@@ -1,0 +1,146 @@
+-- The tests in 01's order are the definition's; what was asked of the rows is what the text shows. Assumes nothing.
+use Rattle.std.proofs.Common.{List, ap, arith, length, sym, take, ℕ, ◌∙◌, ◌≡◌, ◌≤◌, Bool, true}
+use lib.ListN.{length-map}
+use Rattle.glyph.specs.declared.Glyph.{Glyph}
+use Rattle.glyph.specs.Glyph.{glyphs_of}
+use Rattle.text.specs.Laws.{sizes}
+use Rattle.verdict.specs.Verdict.{Asked, value_by}
+use Rattle.matching.specs.Matchers.{input_on, ahead_on, back_on}
+use Rattle.matching.specs.Answers.{input_told, match_end}
+use Rattle.book.specs.Book.{Chain}
+use Rattle.matching.specs.Cases.{is_matched}
+use Rattle.run.specs.Run.{moved_level}
+use Rattle.run.specs.Chain.{is_taken, itself}
+use Rattle.run_positions.specs.Slots.{shown}
+use Rattle.run_chain_match.specs.Aim.{handed_chain}
+use Rattle.run_chain_match.specs.Shifts.{Shown, input_shown}
+use Rattle.run_chain_match.specs.Laws.{aim_other, aim_lost, aim_behind, aim_ahead, aim_hit, open_asks}
+use Rattle.run_chain_match.proofs.match_chain.Goals as goal
+use Rattle.run_chain_match.proofs.match_chain.Goals.{After-match_values-m}
+
+-- what input matching answered, of the first d glyphs of `done`
+module _ (c : After-match_values-m) where
+  abbrev k : Chain Asked
+  k = let a = c.args in handed_chain a.tests a.lists.now a.first a.back.now a.input.now a.onward.now a.records
+
+  m_is :
+      let a = c.args in
+      c.match_values-m.result ≡ input_told (glyphs_of a.coming.now) a.p.idx
+      (input_on a.q a.sets.now itself (take a.p.d (glyphs_of a.done.now)) (glyphs_of a.coming.now) a.p.idx k.input)
+  m_is =
+      let a = c.args in
+      c.match_values-m.ensures
+      ∙ ap (λ (D : List Glyph). input_told (glyphs_of a.coming.now) a.p.idx
+      (input_on a.q a.sets.now itself D (glyphs_of a.coming.now) a.p.idx k.input)) c.first-before.ensures
+
+  shows : (b : Bool) → b ≡ is_matched c.match_values-m.result.answer → b ≡ true →
+      let a = c.args in
+      Shown a.done.now a.coming.now a.p c.requires.0 a.q a.sets.now k.input c.match_values-m.result
+  shows b said e =
+      let a = c.args in
+      input_shown a.done.now a.coming.now a.p c.requires.0 a.q a.sets.now c.requires.1 k.input c.match_values-m.result m_is (sym said ∙ e)
+
+  asked-ahead : (end : ℕ) (b : Bool) → end ≡ match_end c.match_values-m.result.answer →
+      let a = c.args in
+      b ≡ is_taken (ahead_on a.q a.sets.now itself (glyphs_of a.coming.now) end c.read-g.result.syllable k.lookahead)
+      → is_taken (ahead_on a.q a.sets.now itself (glyphs_of a.coming.now) (match_end c.match_values-m.result.answer)
+      c.read-g.result.syllable k.lookahead) ≡ b
+  asked-ahead end b e said =
+      let a = c.args in
+      ap (λ (n : ℕ). is_taken (ahead_on a.q a.sets.now itself (glyphs_of a.coming.now) n c.read-g.result.syllable k.lookahead)) (sym e) ∙ sym said
+
+  asked-back : (b : Bool) →
+      let a = c.args in
+      b ≡ is_taken (back_on a.q a.sets.now itself (glyphs_of c.first-before.result.now) c.read-g.result.syllable k.backtrack)
+      → is_taken (back_on a.q a.sets.now itself (take a.p.d (glyphs_of a.done.now)) c.read-g.result.syllable k.backtrack) ≡ b
+  asked-back b said =
+      let a = c.args in
+      ap (λ (D : List Glyph). is_taken (back_on a.q a.sets.now itself D c.read-g.result.syllable k.backtrack)) (sym c.first-before.ensures) ∙ sym said
+
+pub read-g-requires : goal.read-g-requires
+read-g-requires c =
+    let z = sizes c.args.done.now c.args.coming.now c.args.p c.requires.0 in
+    omega (arith, c.requires.1)
+
+pub returns-then-not-is_value : goal.returns-then-not-is_value
+returns-then-not-is_value c =
+    let a = c.args in
+    let g = c.read-g in
+    c.no_aim.ensures
+    ∙ aim_other a.done.now a.coming.now a.p c.requires.0 a.q a.sets.now (handed_chain a.tests a.lists.now a.first a.back.now a.input.now
+    a.onward.now a.records) a.records g.result g.ensures
+    (sym c.is_value.ensures ∙ c.if-not-is_value.true)
+
+pub first-before-requires : goal.first-before-requires
+first-before-requires c =
+    let z = sizes c.args.done.now c.args.coming.now c.args.p c.requires.0 in
+    omega arith
+
+pub match_values-m-requires : goal.match_values-m-requires
+match_values-m-requires c =
+    let z = sizes c.args.done.now c.args.coming.now c.args.p c.requires.0 in
+    (omega (arith, c.requires.1), omega arith, c.requires.3)
+
+pub returns-then-not-is_matched : goal.returns-then-not-is_matched
+returns-then-not-is_matched c =
+    let r = (goal.at.returns-then-not-is_matched c).After-match_values-m in
+    let a = c.args in
+    let g = c.read-g in
+    let said = sym c.is_value.ensures ∙ c.if-not-is_value.false in
+    c.no_aim-then-not-is_matched.ensures
+    ∙ aim_lost a.done.now a.coming.now a.p c.requires.0 a.q a.sets.now (k r) a.records g.result g.ensures said
+    c.match_values-m.result (m_is r) (sym c.is_matched.ensures ∙ c.if-not-is_matched.true)
+
+pub is_ahead-requires : goal.is_ahead-requires
+is_ahead-requires c =
+    let h = shows (goal.at.is_ahead-requires c).After-match_values-m _ c.is_matched.ensures c.if-not-is_matched.false in
+    (omega (arith, h.end, h.inside, c.end_of-end.ensures), c.requires.4)
+
+pub returns-then-not-is_ahead : goal.returns-then-not-is_ahead
+returns-then-not-is_ahead c =
+    let r = (goal.at.returns-then-not-is_ahead c).After-match_values-m in
+    let a = c.args in
+    let g = c.read-g in
+    let said = sym c.is_value.ensures ∙ c.if-not-is_value.false in
+    c.no_aim-then-not-is_ahead.ensures
+    ∙ aim_behind a.done.now a.coming.now a.p c.requires.0 a.q a.sets.now (k r) a.records g.result g.ensures said
+    c.match_values-m.result (m_is r) (shows r _ c.is_matched.ensures c.if-not-is_matched.false)
+    (asked-ahead r _ _ c.end_of-end.ensures c.is_ahead.ensures ∙ c.if-not-is_ahead.true)
+
+pub returns-then-not-is_behind : goal.returns-then-not-is_behind
+returns-then-not-is_behind c =
+    let r = (goal.at.returns-then-not-is_behind c).After-match_values-m in
+    let a = c.args in
+    let g = c.read-g in
+    let said = sym c.is_value.ensures ∙ c.if-not-is_value.false in
+    c.no_aim-then-not-is_behind.ensures
+    ∙ aim_ahead a.done.now a.coming.now a.p c.requires.0 a.q a.sets.now (k r) a.records g.result g.ensures said
+    c.match_values-m.result (m_is r) (shows r _ c.is_matched.ensures c.if-not-is_matched.false)
+    (asked-ahead r _ _ c.end_of-end.ensures c.is_ahead.ensures ∙ c.if-not-is_ahead.false)
+    (asked-back r _ c.is_behind.ensures ∙ c.if-not-is_behind.true)
+
+pub open-level-requires : goal.open-level-requires
+open-level-requires c =
+    let r = (goal.at.open-level-requires c).After-match_values-m in
+    let a = c.args in
+    let g = c.read-g in
+    let said = sym c.is_value.ensures ∙ c.if-not-is_value.false in
+    let few : length (k r).input ≤ 63 = omega (arith, c.requires.3, length-map a.input.now (value_by a.tests.input a.lists.now)) in
+    rw c.end_of-end.ensures
+    (open_asks a.done.now a.coming.now a.p c.requires.0 a.q a.sets.now (k r) a.records g.result g.ensures said
+    c.match_values-m.result (m_is r) (shows r _ c.is_matched.ensures c.if-not-is_matched.false) few)
+
+pub returns : goal.returns
+returns c =
+    let r = (goal.at.returns c).After-match_values-m in
+    let a = c.args in
+    let g = c.read-g in
+    let m = c.match_values-m.result in
+    let said = sym c.is_value.ensures ∙ c.if-not-is_value.false in
+    let opened = c.open-level.ensures ∙ ap (λ (n : ℕ). shown (moved_level a.p.idx a.p.d (take m.count m.positions) n))
+    c.end_of-end.ensures in
+    aim_hit a.done.now a.coming.now a.p c.requires.0 a.q a.sets.now (k r) a.records g.result g.ensures said
+    m (m_is r) (shows r _ c.is_matched.ensures c.if-not-is_matched.false)
+    (asked-ahead r _ _ c.end_of-end.ensures c.is_ahead.ensures ∙ c.if-not-is_ahead.false)
+    (asked-back r _ c.is_behind.ensures ∙ c.if-not-is_behind.false)
+    c.open-level.result opened
