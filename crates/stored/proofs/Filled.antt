@@ -1,10 +1,8 @@
 -- A list of which the first k elements have been filled from a rule, and the rest stand. Assumes nothing.
-use Rattle.std.proofs.Common.{◌≡◌, ℕ, ◌+◌, ◌<◌, Bool, true, false, cond, eqb, ltb, List, length, get_or, set, sym, ap, ◌∙◌, arith, get_or-set_other, get_or-set_same, le-ltb, lt-ltb, eqb-true}
+use Rattle.std.proofs.Common.{◌≡◌, ℕ, ◌+◌, ◌<◌, Bool, true, false, cond, eqb, ltb, List, length, get_or, set, ap, ◌∙◌, arith}
+use Rattle.std.proofs.Common.{get_or-set_other, get_or-set_same, lt-ltb, eqb-true}
 use borrow.Author.Tests.{eqb-false}
 use Rattle.bits.specs.Laws.{ltb_same}
-
-pub filled_none : (xs : List ℕ) (f : ℕ → ℕ) (j : ℕ) → get_or xs j 0 ≡ cond (ltb j 0) (f j) (get_or xs j 0)
-filled_none xs f j = rw (le-ltb j 0 (omega arith))
 
 module _ (xs ys : List ℕ) (f : ℕ → ℕ) (k v : ℕ) (h : k < length xs) (e : (j : ℕ) → get_or xs j 0 ≡ cond (ltb j k) (f j) (get_or ys j 0))
     (g : v ≡ f k) where

@@ -1,6 +1,6 @@
 -- A turn asks of one slot more; all before it hold what is stored. Assumes nothing.
 use Rattle.std.proofs.Common.{true, sym, refl, ◌∙◌, arith, eq-eqb, ne_eqb}
-use Rattle.bits.specs.Laws.{every_none, every_more, every_done, every_not}
+use Rattle.bits.specs.Laws.{every_none, every_more, every_not}
 use Rattle.stored.specs.Stored.{slot_is}
 use Rattle.stored.proofs.slots_are.Goals as goal
 
@@ -18,6 +18,3 @@ loop-k-preserved c = let l = c.loop-k in
     let a = c.args in
     let same = sym c.wanted.ensures ∙ c.if-wanted-wide_slot.false ∙ c.wide_slot.ensures in
     (omega arith, every_more (slot_is a.words.now a.positions.now a.from a.count) l.k true l.invariant.1 (sym (eq-eqb _ _ same)) refl)
-
-pub returns : goal.returns
-returns c = every_done _ c.loop-k.k 64 (omega arith) c.loop-k.invariant.1
