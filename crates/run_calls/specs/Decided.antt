@@ -1,5 +1,5 @@
 -- No second answer: what the run's contract says decides the answer and every word of both rows, refusals too.
-use Rattle.std.specs.Prelude.{◌≡◌, refl, List, ℕ}
+use Rattle.std.specs.Prelude.{◌≡◌, List, ℕ}
 use Rattle.std.proofs.Common.{sym, ◌∙◌}
 use Rattle.glyph.specs.Lossless.{Small}
 use Rattle.text.specs.declared.Place.{Place}
@@ -7,7 +7,7 @@ use Rattle.text.specs.Decided.{decided}
 use Rattle.run.specs.Run.{Stage}
 use Rattle.run_calls.specs.declared.RunAnswer.{RunAnswer}
 use Rattle.run_refuse.specs.declared.Checked.{Checked}
-use Rattle.run_calls.specs.Calls.{RunLeaves, SaidBy, refused_by}
+use Rattle.run_calls.specs.Calls.{RunLeaves, SaidBy}
 
 -- the same answer and the same rows
 pub record SameRun (done coming : List ℕ) (r : RunAnswer) (done' coming' : List ℕ) (r' : RunAnswer) : Type 0 where

@@ -5,7 +5,6 @@ use Rattle.std.specs.Prelude.{◌≡◌, refl, List, [], ◌∷◌, ◌++◌, �
 use Rattle.std.proofs.Common.{sym, ap, subst, ◌∙◌, inl, inr, ⊎_elim, arith, length-append, length-drop, get_or-take, length-take-le}
 use Rattle.glyph.specs.Glyph.{limit, glyphs_of}
 use Rattle.glyph.specs.Laws.{length_row}
-use Rattle.glyph.specs.Lossless.{Small}
 use Rattle.glyph.specs.Reply.{Reply, replies}
 use Rattle.text.specs.declared.Place.{Place}
 use Rattle.text.specs.Text.{Text, text_of, Fits}
@@ -17,7 +16,6 @@ use Rattle.book.specs.Book.{most_records, records_of, lookups_of}
 use Rattle.book.specs.Encode.{Narrow}
 use Rattle.run.specs.declared.Ending.{Ending}
 use Rattle.run.specs.declared.Ending.TheVariants.{Finished, Short}
-use Rattle.run.specs.declared.Given.{Given}
 use Rattle.run.specs.Repair.{Level}
 use Rattle.run.specs.Run.{Stage, run_on, moved_level}
 use Rattle.run.specs.Deeds.{ruled}

@@ -1,8 +1,8 @@
 -- A reply tells the case that it is of: a refusal's number no ending has, and no two endings have one number.
-use Rattle.std.specs.Prelude.{◌≡◌, refl, Bool, true, false, cond, List, [], ◌∷◌, ◌↔◌, ℕ, eqb, length}
+use Rattle.std.specs.Prelude.{◌≡◌, refl, Bool, true, false, cond, List, [], ◌↔◌, ℕ, eqb}
 use Rattle.std.proofs.Common.{sym, ap, ◌∙◌, true≢false, inl, inr, ⊎_elim, arith, eq-eqb}
 use Rattle.std.proofs.Math.Option.{some, some_inj, none-ne-some}
-use Rattle.glyph.specs.Reply.{Reply, replies, number_in, has_values, apart_by}
+use Rattle.glyph.specs.Reply.{replies, number_in, has_values, apart_by}
 use Rattle.run.specs.declared.Ending.{Ending}
 use Rattle.run.specs.declared.Ending.TheVariants.{Finished, Short, Deep, Full}
 use Rattle.run.specs.Run.{Stage}
