@@ -1,7 +1,6 @@
 -- The code's side: the first records as words in an array.
 use Rattle.std.specs.Prelude.{◌≡◌, cond, List, ℕ, ◌+◌, ◌*◌, leb, length, set, take, replicate}
 use Rattle.book.specs.Book.{most_records}
-use Rattle.book.specs.Book as book
 use Rattle.run_record_structs.specs.declared.Record.{Record}
 use Rattle.run_record_structs.specs.declared.Pairs.{Pairs}
 use Rattle.run_record_structs.specs.Records.{record_words}

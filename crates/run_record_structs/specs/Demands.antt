@@ -1,7 +1,7 @@
 -- Demands 1 and 3 of the run on structs (01, "When the desk says no", "Nailing an answer down"), in its own terms: of records a list of structs, of
 -- which at most 16 are let pass.
 -- Said of any answer and rows that meet the contract of `run_record_structs::run`.
-use Rattle.std.specs.Prelude.{◌≡◌, List, [], ◌∷◌, ◌↔◌, ℕ, ◌+◌, ◌-◌, ◌*◌, ◌%◌, ◌≤◌, ◌<◌, length}
+use Rattle.std.specs.Prelude.{◌≡◌, List, [], ◌∷◌, ◌↔◌, ℕ, ◌+◌, ◌-◌, ◌*◌, ◌%◌, ◌≤◌, length}
 use Rattle.std.proofs.Common.{inl, inr, ⊎_elim, arith}
 use Rattle.glyph.specs.Glyph.{words, limit}
 use Rattle.glyph.specs.Order.{Line, RefusedBy}
