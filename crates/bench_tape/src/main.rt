@@ -12,8 +12,13 @@ ghost use Rattle.tape_answer.specs.Tape.{last_answer};
 ghost use Rattle.tape_answer.specs.Feeding.{most_kept, line_left};
 ghost use Rattle.bench_tape.specs.Taking.{space, PartTaken, LineOf};
 
-use libc::{STDERR_FILENO, STDIN_FILENO, STDOUT_FILENO};
+use std::io::{Read, Stdin};
 use tape_answer::MOST_KEPT;
+
+// Standard output and standard error, by number.
+const STDOUT: i32 = 1;
+
+const STDERR: i32 = 2;
 
 // Bytes of a read, and of answers that are written at once.
 const SPACE: usize = 65536;
@@ -50,10 +55,10 @@ fn send(out: &[u8; SPACE], n: usize, sent: bool) -> bool
 {
     if sent {
         let all = &out[..];
-        if io::write_all(STDOUT_FILENO, &all[0..n]) {
+        if io::write_all(STDOUT, &all[0..n]) {
             return true;
         }
-        io::write_all(STDERR_FILENO, b"bench_tape: answers could not be written\n");
+        io::write_all(STDERR, b"bench_tape: answers could not be written\n");
     }
     false
 }
@@ -100,8 +105,9 @@ fn take_piece(piece: &[u8], kept: &mut [u8; MOST_KEPT], n: usize, out: &mut [u8;
     Left { kept: held, sent }
 }
 
-// One read, and the answers to the lines that it ends.
+// One read, and the answers to the lines that it ends. A read that fails counts as the end of the input.
 fn one_read(
+    stdin: &mut Stdin,
     input: &mut [u8; SPACE],
     kept: &mut [u8; MOST_KEPT],
     n: usize,
@@ -111,9 +117,8 @@ fn one_read(
     ensures kept_after { take result.kept kept.new ≡ line_left (take n kept.old) (take result.read input.new) }
     ensures read_le_space { (result.read ≤ space) × (result.kept ≤ most_kept) }
 {
-    let got = libc::read(STDIN_FILENO, input);
+    let read = stdin.read(input).unwrap_or(0);
     let bytes = &input[..];
-    let read = io::count(got, bytes);
     let left = take_piece(&bytes[0..read], kept, n, out);
     Turn {
         read,
@@ -123,14 +128,19 @@ fn one_read(
 }
 
 // Reads to the end, or until answers can't be written. What is left is a last line that lacks its 0A.
-fn read_all(input: &mut [u8; SPACE], kept: &mut [u8; MOST_KEPT], out: &mut [u8; SPACE]) -> Left
+fn read_all(
+    stdin: &mut Stdin,
+    input: &mut [u8; SPACE],
+    kept: &mut [u8; MOST_KEPT],
+    out: &mut [u8; SPACE],
+) -> Left
     ensures line_of { LineOf (take result.kept kept.new) }
     ensures kept_le_most_kept { result.kept ≤ most_kept }
 {
     let mut n = 0;
     let mut turns = u64::MAX;
     while turns > 0 {
-        let t = one_read(input, kept, n, out);
+        let t = one_read(stdin, input, kept, n, out);
         n = t.kept;
         if (t.read == 0) | !t.sent {
             return Left {
@@ -159,15 +169,21 @@ fn answer_last(kept: &[u8; MOST_KEPT], n: usize, out: &mut [u8; SPACE]) -> usize
     tape_feed::answer_line(&line[0..n], out, 0)
 }
 
-fn run(input: &mut [u8; SPACE], kept: &mut [u8; MOST_KEPT], out: &mut [u8; SPACE]) {
-    let left = read_all(input, kept, out);
+fn run(
+    stdin: &mut Stdin,
+    input: &mut [u8; SPACE],
+    kept: &mut [u8; MOST_KEPT],
+    out: &mut [u8; SPACE],
+) {
+    let left = read_all(stdin, input, kept, out);
     let end = answer_last(kept, left.kept, out);
     send(out, end, left.sent);
 }
 
-fn main() {
+fn main(rt: HostRuntime) {
+    let mut stdin = rt.stdin();
     let mut input = io::large_buffer();
     let mut kept = [0u8; MOST_KEPT];
     let mut out = io::large_buffer();
-    run(&mut input, &mut kept, &mut out);
+    run(&mut stdin, &mut input, &mut kept, &mut out);
 }
