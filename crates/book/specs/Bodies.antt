@@ -6,7 +6,7 @@ use Rattle.book.specs.declared.Part.{Part}
 use Rattle.book.specs.declared.Counted.{Counted}
 use Rattle.book.specs.declared.ChainParts.{ChainParts}
 use Rattle.book.specs.declared.Entry.{Entry}
-use Rattle.book.specs.Book.{most_ids, most_input, most_side, most_records, Lookup, Kind1, Kind2, Kind3, records_of, Found, Is}
+use Rattle.book.specs.Book.{most_ids, most_input, most_side, most_records, Lookup, Kind1, Kind2, Kind3, Found, Is}
 use Rattle.book.specs.Book.{None, Split, Taken, Short, counted, and_then, whole_lookup, kind1, kind2, kind3, body_of}
 use Rattle.book.specs.Places.{part_of, chain_of, meant, counted_at, part_then, whole_at, one_at, many_at, chain_at, kind_at}
 

@@ -1,5 +1,5 @@
 -- Examples: small books read by the definition: the lookups of K11 and K13, a chain, and what breaks a limit.
-use Rattle.std.specs.Prelude.{◌≡◌, refl, List, [], ◌∷◌}
+use Rattle.std.specs.Prelude.{◌≡◌, refl, [], ◌∷◌}
 use Rattle.book.specs.Book.{records_of, Kind1, Kind2, Kind3, counted, body_of, first_lookup_of, Reads, Unreadable, read_lookups, read_book}
 
 -- K11: lookup 0 turns 2 into 2, 2

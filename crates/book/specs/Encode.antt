@@ -1,5 +1,5 @@
 -- The words that a lookup is, and the limits that it keeps (01, "Records over a text"): a book is exactly the words of its lookups.
-use Rattle.std.specs.Prelude.{ℕ, ◌+◌, ◌/◌, ◌%◌, ◌≤◌, ◌<◌, List, [], ◌∷◌, ◌++◌, length, get_or}
+use Rattle.std.specs.Prelude.{ℕ, ◌/◌, ◌%◌, ◌≤◌, ◌<◌, List, [], ◌∷◌, ◌++◌, length, get_or}
 use Rattle.book.specs.Book.{most_words, most_lookups, most_ids, most_input, most_side, most_records, Record, Chain, Lookup, Kind1, Kind2, Kind3}
 
 -- the words of records

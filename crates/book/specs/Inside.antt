@@ -7,7 +7,7 @@ use Rattle.book.specs.declared.Part.{Part}
 use Rattle.book.specs.declared.Counted.{Counted}
 use Rattle.book.specs.declared.ChainParts.{ChainParts}
 use Rattle.book.specs.declared.Entry.{Entry}
-use Rattle.book.specs.Book.{most_ids, most_input, most_side, most_records, Is}
+use Rattle.book.specs.Book.{most_ids, most_input, most_side, most_records}
 use Rattle.book.specs.Places.{part_of, meant, counted_at, part_then, one_at, many_at, chain_at, kind_at}
 
 -- ---- parts within the words

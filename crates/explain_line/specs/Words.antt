@@ -1,7 +1,7 @@
 -- Words in a line: when there is room for the whole of them, what a line is that ends in them, and what is left of them to store, byte by byte.
 use Rattle.std.specs.Prelude.{ℕ, ◌+◌, ◌≤◌, ◌<◌, ◌≡◌, List, ◌∷◌, ◌++◌, length, get_or, take, drop}
 use Rattle.std.proofs.Common.{ap, ◌∙◌, add-one, drop-cons}
-use Rattle.tape_frame.specs.Put.{put, Puts, take_put}
+use Rattle.tape_frame.specs.Put.{Puts, take_put}
 
 -- the whole of the words fits into a line from a place on
 abbrev pub IsFitting : List ℕ → ℕ → List ℕ → Type 0

@@ -1,5 +1,5 @@
 -- The ligature rule of input matching, tested after each glyph taken (01, port order 5).
-use Rattle.std.specs.Prelude.{ℕ, zero, suc, List, Bool, true, false, not, cond, ◌&&◌, ◌||◌, eqb, length, get_or}
+use Rattle.std.specs.Prelude.{ℕ, zero, suc, List, Bool, false, not, cond, ◌&&◌, ◌||◌, eqb, length, get_or}
 use Rattle.glyph.specs.declared.Glyph.{Glyph}
 use Rattle.glyph.specs.Glyph.{blank}
 use Rattle.verdict.specs.declared.Matcher.{Matcher}

@@ -1,5 +1,5 @@
 -- A digest of the values of a set of rules: one mask of 64 bits on the value mod 64. (01, port order 1; apply.rs, RuleSetDigest.)
-use Rattle.std.specs.Prelude.{Bool, true, false, ◌||◌, ◌≡◌, ℕ, ◌%◌, ◌<◌, eqb}
+use Rattle.std.specs.Prelude.{Bool, ◌||◌, ◌≡◌, ℕ, ◌%◌, ◌<◌, eqb}
 use Rattle.bits.specs.Bits.{bit, every}
 use Rattle.rule_digest.specs.declared.RuleSetDigest.{RuleSetDigest}
 

@@ -1,14 +1,13 @@
 -- A chain of at most 63 input values matches in the text, from the cursor on: at most 64 positions that rise, with the end after the last and in the
 -- text.
 -- The cursor is the first position and the others are the places that the input took, one for each of at most 63 values.
-use Rattle.std.specs.Prelude.{◌≡◌, Bool, cond, ◌&&◌, List, [], ◌∷◌, map, ℕ, suc, ◌+◌, ◌≤◌, ◌<◌, length, get_or, take}
+use Rattle.std.specs.Prelude.{◌≡◌, Bool, cond, ◌&&◌, List, ◌∷◌, ℕ, ◌+◌, ◌≤◌, ◌<◌, length, get_or}
 use Rattle.std.proofs.Math.Path.{refl}
-use Rattle.std.proofs.Common.{sym, ap, ◌∙◌, arith}
+use Rattle.std.proofs.Common.{arith}
 use Rattle.std.proofs.Math.Bool.{true, false}
-use Rattle.std.proofs.lemmas.List.{length-map}
 use Rattle.glyph.specs.Glyph.{blank}
 use Rattle.text.specs.Text.{Text}
-use Rattle.verdict.specs.Verdict.{Asked, equal_to, is_yes}
+use Rattle.verdict.specs.Verdict.{Asked, is_yes}
 use Rattle.verdict.specs.declared.Verdict.{Verdict}
 use Rattle.matching.specs.declared.Terms.{Terms}
 use Rattle.matching.specs.Take.{ahead, Outcome, taken, lost, unlike, reached}
@@ -17,7 +16,7 @@ use Rattle.matching.specs.Demand2.{Accepts, no_value, more}
 use Rattle.matching.specs.Demand2Laws.{demand_2}
 use Rattle.matching.specs.Rising.{as_many, end_inside}
 use Rattle.book.specs.Book.{Chain, most_input}
-use Rattle.run.specs.Run.{Match, Matched, Unmatched}
+use Rattle.run.specs.Run.{Matched, Unmatched}
 use Rattle.run.specs.Repair as rises
 use Rattle.run.specs.Repair.{Rises, Sound}
 use Rattle.run.specs.Kept.{Fitting}

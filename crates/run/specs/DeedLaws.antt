@@ -1,6 +1,6 @@
 -- What lookups do is fair: kinds 1 and 2 leave the glyphs before the cursor, and a chain of a book that reads matches in the text. And a relation
 -- that one replacement keeps is kept by what lookups do.
-use Rattle.std.specs.Prelude.{◌≡◌, Bool, true, false, cond, List, [], ◌∷◌, map, ℕ, ◌≤◌, ◌<◌, length}
+use Rattle.std.specs.Prelude.{◌≡◌, Bool, true, false, cond, List, [], ◌∷◌, ℕ, ◌≤◌, ◌<◌, length}
 use Rattle.std.proofs.Math.Path.{refl}
 use Rattle.std.proofs.Common.{arith}
 use Rattle.std.proofs.lemmas.List.{length-map}
@@ -10,7 +10,7 @@ use Rattle.text.specs.Changes.{replaced-length, replaced_before}
 use Rattle.verdict.specs.Verdict.{Asked, equal_to}
 use Rattle.book.specs.Book.{Chain, Lookup, Kind1, Kind2, Kind3, Found, Is, None, lookup_at, most_input}
 use Rattle.run.specs.declared.Given.{Given}
-use Rattle.run.specs.Run.{Reason, PastLimit, Made, Into, Halts, Match, Deed}
+use Rattle.run.specs.Run.{Reason, PastLimit, Made, Into, Halts, Match}
 use Rattle.run.specs.Repair.{Repairing, Mends, repaired}
 use Rattle.run.specs.Rises.{repaired_mends}
 use Rattle.run.specs.Kept.{Sparing, FairDeed, Fitting, Fair}

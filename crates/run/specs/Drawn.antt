@@ -9,12 +9,10 @@ use Rattle.glyph.specs.Write.{with_id}
 use Rattle.text.specs.Text.{Text, written, copies_by}
 use Rattle.verdict.specs.Verdict.{Asked}
 use Rattle.book.specs.Book.{Record, Chain, Lookup, Found}
-use Rattle.run.specs.declared.Given.{Given}
 use Rattle.run.specs.Run.{Match, run_on}
 use Rattle.run.specs.Repair.{Repairing}
 use Rattle.run.specs.Related.{run_relates}
-use Rattle.run.specs.Chain.{chain_by}
-use Rattle.run.specs.Deeds.{rules_by, ruled}
+use Rattle.run.specs.Deeds.{rules_by}
 use Rattle.run.specs.DeedLaws.{KeptByWriting, writing_lasts}
 
 -- what is written for an id has the value of the glyph that it replaces

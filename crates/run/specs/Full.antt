@@ -1,7 +1,7 @@
 -- What Full means (01, "Records over a text"): a lookup of kind 2 that was tried, at its id, would have passed the limit; and no other lookup ends a
 -- run so.
-use Rattle.std.specs.Prelude.{◌≡◌, refl, Bool, List, [], ◌∷◌, ◌↔◌, ℕ, length}
-use Rattle.std.proofs.Common.{sym, ap, ◌∙◌, arith}
+use Rattle.std.specs.Prelude.{◌≡◌, refl, Bool, List, ◌↔◌, ℕ, length}
+use Rattle.std.proofs.Common.{sym, ap, arith}
 use Rattle.std.proofs.Math.Bool.{true, false, cond}
 use Rattle.glyph.specs.declared.Glyph.{Glyph}
 use Rattle.text.specs.Text.{Text, replaced_by, is_full}
@@ -9,8 +9,8 @@ use Rattle.verdict.specs.Verdict.{Asked}
 use Rattle.book.specs.Book.{Record, Chain, Lookup, Kind1, Kind2, Kind3, Found, Is, None}
 use Rattle.run.specs.declared.Ending.TheVariants.{Full}
 use Rattle.run.specs.Repair.{Repairing}
-use Rattle.run.specs.Run.{PastLimit, Made, Into, Halts, Match, Deed, Acts, Chains, Rules, Stage, opened, begun, run_on}
-use Rattle.run.specs.Deeds.{is_at, renamed_by, multiplied_by, deed_by, rules_by}
+use Rattle.run.specs.Run.{PastLimit, Into, Halts, Match, Deed, Acts, Chains, Rules, Stage, opened, begun, run_on}
+use Rattle.run.specs.Deeds.{is_at, renamed_by, deed_by, rules_by}
 use Rattle.run.specs.Stops.{MetReason, Halting, stopped_exactly}
 
 -- kind 2 at its id, with more ids than there is room for

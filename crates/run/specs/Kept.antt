@@ -2,20 +2,20 @@
 -- that no move leaves the text.
 -- A lookup at the cursor changes only what follows it, and a record's position is never before its level's first; so it goes from record to level and
 -- from depth to depth.
-use Rattle.std.specs.Prelude.{◌≡◌, Bool, true, false, not, ◌&&◌, leb, ltb, length, get_or, take, drop}
+use Rattle.std.specs.Prelude.{◌≡◌, Bool, true, false, not, ◌&&◌, ltb, length, take}
 use Rattle.std.proofs.Math.Path.{refl}
 use Rattle.std.proofs.Common.{sym, ap, ◌∙◌, arith, ltb-true, take-take}
 use mathlib.Core.List.{List, [], ◌∷◌}
-use Prim.Native.Nat.{ℕ, zero, suc, ◌+◌, ◌-◌, ◌≤◌, ◌<◌}
+use Prim.Native.Nat.{ℕ, zero, suc, ◌≤◌, ◌<◌}
 use Rattle.bits.specs.Laws.{and_left, and_right}
 use Rattle.glyph.specs.declared.Glyph.{Glyph}
 use Rattle.text.specs.Text.{Text, moved_to}
 use Rattle.book.specs.Book.{Record, Lookup, Found, lookup_at}
-use Rattle.run.specs.Repair.{Level, Mends, Sound}
+use Rattle.run.specs.Repair.{Mends, Sound}
 use Rattle.run.specs.Run.{Run, Stage, Effect, Made, Into, Halts, made_in, Match, Matched}
 use Rattle.run.specs.Run.{Unmatched, Deed, Acts, Chains, Rules, is_over, size, changed, when}
 use Rattle.run.specs.Run.{in_run, opened, chained_by, done_by, place_of, is_due, arrived}
-use Rattle.run.specs.Run.{spending, followed_by, tried_by, due_by, step_by, records_by, closed}
+use Rattle.run.specs.Run.{spending, tried_by, due_by, step_by, records_by, closed}
 use Rattle.run.specs.Run.{acting, mending, deed_at, chain_run, lookup_run}
 use Rattle.run.specs.Rises.{rises_at}
 

@@ -1,14 +1,13 @@
 -- Demand 3 and its companions, of any run over a text: whatever the book, the records, the match
 -- and the rules, by which a lookup acts and a level is repaired (01, "Nailing an answer down").
-use Rattle.std.specs.Prelude.{◌≡◌, refl, true, List, ◌↔◌, ℕ, ◌<◌, ◌≤◌, ◌+◌, ◌-◌, length, take}
-use Rattle.std.proofs.Common.{sym, ap, ◌∙◌, ⊎_elim, le_refl, add-zero, arith}
+use Rattle.std.specs.Prelude.{◌≡◌, refl, true, List, ◌↔◌, ℕ, ◌<◌, ◌≤◌, ◌+◌, ◌-◌, length}
+use Rattle.std.proofs.Common.{ap, ◌∙◌, ⊎_elim, le_refl, add-zero, arith}
 use Rattle.text.specs.Text.{Text}
 use Rattle.book.specs.Book.{Record, Lookup}
-use Rattle.run.specs.declared.Ending.{Ending}
-use Rattle.run.specs.declared.Ending.TheVariants.{Finished, Short, Deep, Full}
-use Rattle.run.specs.Run.{Run, Stage, Rules, opened, begun, chain_run, run_on}
+use Rattle.run.specs.declared.Ending.TheVariants.{Finished, Short}
+use Rattle.run.specs.Run.{Stage, Rules, opened, begun, run_on}
 use Rattle.run.specs.Kept.{Fair, Good, chain_good}
-use Rattle.run.specs.Spending.{left_of, end_of, refilled_of, chain_core}
+use Rattle.run.specs.Spending.{refilled_of, chain_core}
 use Rattle.run.specs.Tries.{chain_adds, chain_told}
 use Rattle.run.specs.Repair.{Sound}
 use Rattle.run.specs.Met.{Met}

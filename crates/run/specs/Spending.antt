@@ -3,7 +3,7 @@
 --     Stays f       what is Short with nothing left stays so
 --     chain-core    a chain at depth d, and at d' ≥ d
 -- A step that spends nothing reads no allowance; a try takes one from both; one after the other adds up. Then by the depth.
-use Rattle.std.specs.Prelude.{◌≡◌, refl, Bool, true, false, not, length, get_or}
+use Rattle.std.specs.Prelude.{◌≡◌, refl, Bool, true, false, not}
 use Rattle.std.proofs.Common.{sym, ap, subst, ◌∙◌}
 use mathlib.Core.List.{List, [], ◌∷◌}
 use Prim.Native.Nat.{ℕ, zero, suc, ◌<◌, ◌≤◌, ◌+◌, ◌-◌}
@@ -14,7 +14,7 @@ use Rattle.text.specs.Text.{Text, moved_to}
 use Rattle.book.specs.Book.{Record, Lookup}
 use Rattle.run.specs.declared.Ending.{Ending}
 use Rattle.run.specs.declared.Ending.TheVariants.{Finished, Short, Deep}
-use Rattle.run.specs.Repair.{Level, Repairing}
+use Rattle.run.specs.Repair.{Repairing}
 use Rattle.run.specs.Run.{Run, Stage, Effect, Reason, ending_for, Made, Into, Halts, made_in}
 use Rattle.run.specs.Run.{Match, Matched, Unmatched, Deed, Acts, Chains, Rules, is_over, changed}
 use Rattle.run.specs.Run.{tallied, ending_as, in_run, when, opened, chained_by, done_by}

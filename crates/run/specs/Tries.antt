@@ -1,21 +1,21 @@
 -- What was left and what was tried add up to the allowance, and a run is Short exactly when a due record met allowance 0.
 -- Both go from a record to the records of a level, and by the depth to the levels below.
-use Rattle.std.specs.Prelude.{◌≡◌, Bool, true, false, not, ◌↔◌, ◌⊎◌}
+use Rattle.std.specs.Prelude.{◌≡◌, Bool, true, false, not, ◌⊎◌}
 use Rattle.std.proofs.Math.Path.{refl}
-use Rattle.std.proofs.Common.{sym, ap, ◌∙◌}
+use Rattle.std.proofs.Common.{sym, ◌∙◌}
 use mathlib.Core.List.{List, [], ◌∷◌}
 use Rattle.std.proofs.Math.Logic.{⊎_elim, inl, inr}
-use Prim.Native.Nat.{ℕ, zero, suc, ◌<◌, ◌≤◌, ◌+◌, ◌-◌}
+use Prim.Native.Nat.{ℕ, zero, suc, ◌+◌}
 use native.Mathlib.Omega.{arith}
 use Rattle.text.specs.Text.{moved_to}
 use Rattle.book.specs.Book.{Record, Lookup}
 use Rattle.run.specs.declared.Ending.{Ending}
-use Rattle.run.specs.declared.Ending.TheVariants.{Finished, Short, Deep}
+use Rattle.run.specs.declared.Ending.TheVariants.{Short, Deep}
 use Rattle.run.specs.Run.{Run, Stage, Effect, Reason, ending_for, Made, Into, Halts, made_in}
 use Rattle.run.specs.Run.{Match, Matched, Unmatched, Deed, Acts, Chains, Rules, is_over, changed}
 use Rattle.run.specs.Run.{when, opened, chained_by, done_by, is_due, arrived, spending, tried_by, due_by, step_by, records_by, closed}
 use Rattle.run.specs.Run.{acting, mending, deed_at, chain_run, lookup_run}
-use Rattle.run.specs.Spending.{Out, Stays, left, ends, left_of, end_of, due_out, records_stays, closed_stays, chain_core}
+use Rattle.run.specs.Spending.{Out, left, ends, left_of, end_of, records_stays, closed_stays}
 use Rattle.run.specs.Over.{reason_over, short_not_over}
 use Rattle.run.specs.Met.{MetTry, MetRecords, MetMatch, MetDeed, Met}
 

@@ -1,8 +1,8 @@
 -- What stands in each slot after a gain, a loss and an opening, and that 64 slots filled so hold the positions.
 use Rattle.std.specs.Prelude.{◌≡◌, refl, List, [], ◌∷◌, ◌++◌, map, set, take, drop, replicate}
-use Rattle.std.proofs.Common.{sym, ◌∙◌, add-one, length-append, length-take, length-set, length-take-le, ext_get_or, get_or-set_same, get_or-set_other}
+use Rattle.std.proofs.Common.{sym, ◌∙◌, length-append, length-take-le, ext_get_or, get_or-set_same, get_or-set_other}
 use Rattle.std.proofs.Math.Path.{ap}
-use Prim.Native.Nat.{ℕ, zero, suc, ◌+◌, ◌-◌, ◌≤◌, ◌<◌, min}
+use Prim.Native.Nat.{ℕ, zero, suc, ◌+◌, ◌-◌, ◌≤◌, ◌<◌}
 use Rattle.std.proofs.Math.Decide.{dec_lt}
 use native.Mathlib.Omega.{arith}
 use Rattle.std.proofs.Math.ListN.{length, get_or, length-drop, get_or-append, get_or-eq_default}
@@ -11,7 +11,7 @@ use Rattle.std.proofs.Math.Seq.{get_or-take, get_or-drop, get_or-append-add, tak
 use Rattle.glyph.specs.Glyph.{limit}
 use Rattle.matching.specs.Take.{slots}
 use Rattle.matching.specs.Answers.{slotted}
-use Rattle.run.specs.Repair.{Level, following, with_gain, with_loss, Rises, Sound}
+use Rattle.run.specs.Repair.{Level, following, with_gain, with_loss, Sound}
 use Rattle.run.specs.Rises.{rises_at, length-following, length_gained, length-lost}
 use Rattle.run_positions.specs.declared.Slots.{Slots}
 use Rattle.run_positions.specs.Slots.{level_of, shown, Neat, Placed}

@@ -1,19 +1,18 @@
 -- What growing, shrinking and repairing make of slots, as levels.
-use Rattle.std.specs.Prelude.{◌≡◌, refl, Bool, true, false, cond, List, map, leb, ltb, take}
-use Rattle.std.proofs.Common.{sym, ◌∙◌, add-one, arith}
+use Rattle.std.specs.Prelude.{◌≡◌, true, false, List, map, take}
+use Rattle.std.proofs.Common.{sym, ◌∙◌, arith}
 use Rattle.std.proofs.Math.Path.{ap}
 use Prim.Native.Nat.{ℕ, suc, ◌+◌, ◌-◌, ◌≤◌, ◌<◌, min}
 use borrow.Author.Tests.{le-leb, lt-leb, lt-ltb, le-ltb}
 use Rattle.std.proofs.Math.ListN.{length, get_or}
 use Rattle.std.proofs.Math.Seq.{get_or-take}
-use Rattle.glyph.specs.Glyph.{limit}
 use Rattle.matching.specs.Take.{slots}
 use Rattle.matching.specs.Answers.{slotted}
-use Rattle.run.specs.Repair.{Level, with_gain, with_loss, grown_by, shrunk_by, raised_to, held_back, repaired, Sound}
+use Rattle.run.specs.Repair.{with_gain, with_loss, grown_by, shrunk_by, raised_to, held_back, repaired, Sound}
 use Rattle.run.specs.Rises.{length_gained, length-lost, rises_at}
 use Rattle.run_positions.specs.declared.Slots.{Slots}
 use Rattle.run_positions.specs.Slots.{level_of, shown, Neat, Placed}
-use Rattle.run_positions.specs.Laws.{size_is, placed, count_is}
+use Rattle.run_positions.specs.Laws.{size_is, count_is}
 use Rattle.run.specs.Run.{from_done, moved_level}
 
 at_most : (a b m : ℕ) → m ≡ min a b → m ≤ b

@@ -1,5 +1,5 @@
 -- An answer's bytes, case by case, as the code writes them; and the answer to a line by what it was decoded to.
-use Rattle.std.specs.Prelude.{ℕ, zero, suc, ◌*◌, ◌≤◌, ◌<◌, min, ◌≡◌, refl, List, [], ◌∷◌, ◌⊎◌}
+use Rattle.std.specs.Prelude.{ℕ, zero, suc, ◌*◌, ◌≤◌, ◌<◌, min, ◌≡◌, List, [], ◌∷◌, ◌⊎◌}
 use Rattle.std.proofs.Common.{zero-le, suc-le-suc, ◌∙◌, inl, inr, ⊎_elim, arith, take_all}
 use Rattle.std.proofs.Math.Path.{sym, ap}
 use Rattle.std.proofs.Math.ListN.{length, take}

@@ -3,9 +3,8 @@ use Rattle.std.specs.Prelude.{ℕ, zero, suc, ◌+◌, ◌*◌, ◌/◌, ◌%◌
 use Rattle.std.proofs.Common.{ap, arith, eqb-true, get_or-drop}
 use Rattle.bits.specs.Bits.{every}
 use Rattle.bits.specs.Laws.{every_at}
-use Rattle.glyph.specs.Glyph.{words}
 use Rattle.tape_frame.specs.Digits.{digit, is_digit, spells, bytes_of}
-use Rattle.tape_frame.specs.Frame.{a_frame, half_at, word_at, words_at}
+use Rattle.tape_frame.specs.Frame.{half_at, word_at, words_at}
 use Rattle.tape_frame.specs.Line.{capital, digits_of, half, word, word_bytes}
 
 -- ---- numbers below a bound, and lists of them

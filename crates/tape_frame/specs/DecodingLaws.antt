@@ -1,6 +1,6 @@
 -- What the code counts on of a head, how the lists of a frame are read as its head counts them, and what is known of a line by what it was
 -- decoded to.
-use Rattle.std.specs.Prelude.{ℕ, ◌+◌, ◌*◌, ◌≡◌, refl, List, true, length}
+use Rattle.std.specs.Prelude.{ℕ, ◌*◌, ◌≡◌, refl, List, true, length}
 use Rattle.std.proofs.Common.{sym, ◌∙◌, arith}
 use Rattle.std.proofs.Math.Path.{ap}
 use Rattle.glyph.specs.Glyph.{words, glyphs_of, Row}

@@ -6,13 +6,12 @@ use Rattle.std.proofs.Common.{sym, ◌∙◌, true≢false, inl, inr, ⊎_elim, 
 use Rattle.std.proofs.Math.Path.{ap}
 use native.Mathlib.Omega.{arith}
 use Rattle.bits.specs.Laws.{and_left, and_right}
-use Rattle.glyph.specs.Glyph.{words}
 use Rattle.verdict.specs.declared.Table.{Table}
 use Rattle.tape_frame.specs.declared.Kind.{Kind}
 use Rattle.tape_frame.specs.Digits.{spells, bytes_of}
 use Rattle.tape_frame.specs.DigitLaws.{spells_odd, length_bytes}
-use Rattle.tape_frame.specs.Frame.{Frame, most_values, most_glyphs, most_bytes, most_digits, LineRead, a_frame, not_frame, word_at, words_at, table_kind}
-use Rattle.tape_frame.specs.Frame.{value_count, done_count, coming_count, frame_end, is_whole, frame_in, whole_frame, of_kind, read_bytes, frame_of}
+use Rattle.tape_frame.specs.Frame.{Frame, most_values, most_glyphs, most_bytes, most_digits, a_frame, not_frame, word_at, words_at, table_kind}
+use Rattle.tape_frame.specs.Frame.{value_count, done_count, coming_count, frame_end, is_whole, frame_in, of_kind, read_bytes, frame_of}
 
 module _ (b : List ℕ) (at n i : ℕ) where
   pub words_step : i < n → words_at (n - i) (at + 4 * i) b ≡ word_at b (at + 4 * i) ∷ words_at (n - (i + 1)) (at + 4 * (i + 1)) b

@@ -1,5 +1,5 @@
 -- Examples: what K11 and K13 of 01 do to texts: lists of glyphs, and no offset.
-use Rattle.std.specs.Prelude.{◌≡◌, refl, List, [], ◌∷◌, map, ℕ}
+use Rattle.std.specs.Prelude.{◌≡◌, refl, [], ◌∷◌, ℕ}
 use Rattle.glyph.specs.declared.Glyph.{Glyph}
 use Rattle.glyph.specs.Signs.{glyph}
 use Rattle.glyph.specs.Write.{with_id}

@@ -1,6 +1,6 @@
 -- What a move and a replacement do to a text: a move changes no glyph; a replacement leaves the glyphs before the cursor, and those after it follow
 -- what was written.
-use Rattle.std.specs.Prelude.{◌≡◌, refl, Bool, true, false, not, ◌||◌, List, [], ◌∷◌, ◌++◌, ◌↔◌, ℕ, ◌+◌, ◌-◌, ◌*◌, ◌≤◌, ◌<◌, eqb, leb, ltb, length, get_or, take, drop}
+use Rattle.std.specs.Prelude.{◌≡◌, refl, false, ◌||◌, List, ◌++◌, ◌↔◌, ℕ, ◌+◌, ◌-◌, ◌*◌, ◌≤◌, ◌<◌, eqb, ltb, length, get_or, take, drop}
 use Rattle.std.proofs.Common.{sym, ap, ◌∙◌, append_assoc, arith, eqb-true, ltb-false, leb-false, eq-eqb, le-ltb, length-append, length-drop, length-take-le, take_at, drop_at, get_or-take}
 use Rattle.std.proofs.lemmas.Bool.{not-false, lt-leb}
 use Rattle.std.proofs.lemmas.List.{length-map}

@@ -1,12 +1,12 @@
 -- Glyphs that go from one row to the other leave the text as it is.
-use Rattle.std.specs.Prelude.{◌≡◌, refl, List, [], ◌∷◌, ◌++◌, ℕ, zero, suc, ◌+◌, ◌-◌, ◌*◌, ◌≤◌, ◌<◌, min, length, set, get_or, take, drop, replicate}
-use Rattle.std.proofs.Common.{sym, ap, ◌∙◌, append_assoc, append-nil, add-zero, add-one, arith, drop_of_length-le, length-append, length-take, length-drop, take-append-drop, length-take-le, take_at, drop_at, drop-drop, take-add, get_or-append-add, get_or-drop, take_all}
+use Rattle.std.specs.Prelude.{◌≡◌, refl, List, [], ◌∷◌, ◌++◌, ℕ, ◌+◌, ◌-◌, ◌≤◌, ◌<◌, length, set, get_or, take, drop, replicate}
+use Rattle.std.proofs.Common.{sym, ap, ◌∙◌, append_assoc, append-nil, add-zero, add-one, arith, drop_of_length-le, length-append, length-drop, take-append-drop, length-take-le, take_at, drop_at, drop-drop, take-add, get_or-append-add, get_or-drop, take_all}
 use Rattle.std.proofs.lemmas.List.{length-map, length-replicate}
 use Rattle.std.proofs.Math.ListN.{get_or-map}
-use Rattle.std.proofs.Math.Seq.{drop-append-add, paste, paste-zero, paste-suc, drop-length}
+use Rattle.std.proofs.Math.Seq.{drop-append-add, paste, paste-zero, paste-suc}
 use Rattle.std.proofs.lemmas.List.Edits.{take-paste, drop-paste}
 use Rattle.glyph.specs.declared.Glyph.{Glyph}
-use Rattle.glyph.specs.Glyph.{limit, words, Row, glyphs_of, blank}
+use Rattle.glyph.specs.Glyph.{limit, glyphs_of, blank}
 use Rattle.glyph.specs.Laws.{length_row}
 use Rattle.text.specs.declared.Place.{Place}
 use Rattle.text.specs.Text.{Text, text_of, Fits, Holds, Clear, moved_to, copies_by, replaced_by}

@@ -1,8 +1,8 @@
 -- Two rows that hold a text and 0 in every other cell, word for word (01, "Records over a text": when a run ends, cells in neither part hold 0).
-use Rattle.std.specs.Prelude.{◌≡◌, refl, List, ◌++◌, ℕ, ◌+◌, ◌-◌, ◌*◌, length, take, drop, replicate}
-use Rattle.std.proofs.Common.{sym, ap, ◌∙◌, arith}
+use Rattle.std.specs.Prelude.{◌≡◌, List, ◌++◌, ℕ, ◌+◌, ◌-◌, ◌*◌, length, take, drop}
+use Rattle.std.proofs.Common.{sym, ap, ◌∙◌}
 use Rattle.bits.specs.Bits.{zeros}
-use Rattle.glyph.specs.Glyph.{words, limit, glyphs_of, blank}
+use Rattle.glyph.specs.Glyph.{words, limit}
 use Rattle.glyph.specs.Lossless.{Small, row_of, row_back, row_append, row_blank}
 use Rattle.text.specs.declared.Place.{Place}
 use Rattle.text.specs.Text.{Text, Holds, Clear}

@@ -3,7 +3,7 @@
 -- its extent, each exactly when Means says so.
 use Rattle.std.specs.Prelude.{ℕ, ◌+◌, ◌%◌, ◌≤◌, ◌≡◌, List, [], ◌∷◌, ◌↔◌, ◌⊎◌, length}
 use Rattle.glyph.specs.Glyph.{limit, Row, glyphs_of}
-use Rattle.glyph.specs.Reply.{Reply, replies}
+use Rattle.glyph.specs.Reply.{replies}
 use Rattle.glyph.specs.Order.{Line, RefusedBy}
 use Rattle.verdict.specs.declared.Matcher.{Matcher}
 use Rattle.verdict.specs.declared.Verdict.{Verdict}

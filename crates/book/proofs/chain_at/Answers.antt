@@ -11,10 +11,10 @@ returns-then-words-a c = rw (le-ltb _ _ c.if-words-a.true)
 pub returns-in_default : goal.returns-in_default
 unfolding chain_at
 returns-in_default c = rw (
-      lt-ltb _ _ c.if-words-a.false,
-      ← c.counted_at.ensures,
-      c.in_default.is,
-    )
+  lt-ltb _ _ c.if-words-a.false,
+  ← c.counted_at.ensures,
+  c.in_default.is,
+)
 
 pub returns-in_default-counted_at : goal.returns-in_default-counted_at
 unfolding chain_at

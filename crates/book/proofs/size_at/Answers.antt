@@ -1,5 +1,5 @@
 -- Where an entry isn't missing its head lies within the words, so that its length can be read. Assumes nothing.
-use Rattle.std.proofs.Common.{List, ap, arith, false, get_or, length, sym, true, ℕ, ◌+◌, ◌∙◌, ◌≡◌, ◌≤◌}
+use Rattle.std.proofs.Common.{List, ap, arith, false, get_or, length, sym, ℕ, ◌+◌, ◌∙◌, ◌≡◌, ◌≤◌}
 use Rattle.book.specs.Places.{entry_at, missing, size_at}
 use Rattle.book.specs.Readings.{entry_fits}
 use Rattle.book.proofs.size_at.Goals as goal

@@ -212,8 +212,7 @@ loop-i-preserved-in-Match c =
     let small : c.read-this.result.ligated ≤ 255 = omega arith in
     let inside : next r < length (gs r) = omega (arith, long r, c.if-len-next.false) in
     let read = c.read-this.ensures in
-    let said = rest r _ read _ _ c.is_skip_yes.ensures c.if-not-is_skip_yes.true c.on_rest.ensures ∙ c.in-Match.is in
-    (
+    let said = rest r _ read _ _ c.is_skip_yes.ensures c.if-not-is_skip_yes.true c.on_rest.ensures ∙ c.in-Match.is in (
       more r _ read inside said (kept r _ read _ _ c.look_for_base-base.ensures c.may_join.ensures ∙ c.if-not-may_join.false) small,
       subst (λ (b : Ligbase). Known b (skips r)) (sym c.look_for_base-base.ensures)
           (looked_known c.loop-i.base (base_needed (first r) c.read-this.result) (skips r) c.loop-i.invariant.1),
@@ -245,8 +244,7 @@ pub loop-i-preserved : goal.loop-i-preserved
 loop-i-preserved c =
     let r = (goal.at.loop-i-preserved c).In-loop-i in
     let a = c.args in
-    let inside : next r < length (gs r) = omega (arith, long r, c.if-len-next.false) in
-    (
+    let inside : next r < length (gs r) = omega (arith, long r, c.if-len-next.false) in (
       skipped r inside
           (judged_yes a.m (sign r) (get_or (gs r) (idx r) blank).syllable a.sets.now (gs r) (next r) c.read-this.result c.is_skip_yes.result
           c.read-this.ensures c.is_skip_yes.ensures c.if-not-is_skip_yes.false),

@@ -37,7 +37,10 @@ loop-i-preserved c =
 
 pub returns : goal.returns
 returns c = let line = c.args.line.now in
-    let l = c.loop-i in record { value = sym (sym l.invariant.2 ∙ spells_end line (2 * l.i) (omega arith)); out_after = λ e.
+    let l = c.loop-i in record {
+      value = sym (sym l.invariant.2 ∙ spells_end line (2 * l.i) (omega arith));
+      out_after = λ e.
           sym (put_none l.out l.i)
           ∙ ap (put l.out l.i) (sym (bytes_end line (2 * l.i) (omega arith)))
-          ∙ l.invariant.3 }
+          ∙ l.invariant.3;
+    }

@@ -26,8 +26,11 @@ returns-in-Frame c =
     let d = c.decode in
     let h = c.in-Frame.h in
     let t = frame_told (frame_of line) h (sym c.in-Frame.is ∙ d.ensures.answers) in
-    let p = c.put_answer.ensures in record { puts = rw (
+    let p = c.put_answer.ensures in record {
+      puts = rw (
         ← told_answer line h t d.result (replicate most_values 0) d.new.values (replicate (words * most_glyphs) 0) d.new.done
             (replicate (words * most_glyphs) 0) d.new.coming d.ensures refl refl refl,
         ← c.ask-m.ensures,
-      ) p.puts; upper_bound = p.upper_bound }
+      ) p.puts;
+      upper_bound = p.upper_bound;
+    }
