@@ -6,7 +6,7 @@ use Rattle.std.proofs.Math.Nat.{lt-div-mul-add}
 use Rattle.std.proofs.Math.Pow.{shr_mono}
 use Rattle.std.proofs.lemmas.Nat.{shr_le, shl-shr}
 use Rattle.bits.specs.Bits.{some}
-use Rattle.bits.specs.Laws.{and_left, and_right, and_both, or_left, or_right, every_at, every_so, some_at}
+use Rattle.bits.proofs.Laws.{and_left, and_right, and_both, or_left, or_right, every_at, every_so, some_at}
 use Rattle.mask.specs.Mask.{round}
 use Rattle.digest.specs.Digest.{Bits, shift, place, united, added, added_all, wide, ranged, may_have, may_intersect}
 

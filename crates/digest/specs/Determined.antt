@@ -1,7 +1,7 @@
 -- No second answer: a digest of which each bit is said is said whole.
 use Rattle.std.specs.Prelude.{◌≡◌, ℕ, ◌^◌, ◌<◌, List, length, slice_index}
 use Rattle.std.proofs.Common.{sym, ap, ◌∙◌, arith, ext_get_or}
-use Rattle.bits.specs.Same.{same_number}
+use Rattle.bits.proofs.Same.{same_number}
 use Rattle.digest.specs.declared.SetDigest.{SetDigest}
 use Rattle.digest.specs.Digest.{Bits, Says}
 

@@ -6,7 +6,7 @@ use borrow.Author.Tests.{eq-eqb, ne_eqb, eqb-true, not-true, not-false}
 use Rattle.std.proofs.Math.Dec.{eqb}
 use Rattle.std.specs.Int.Bits.{bit_and}
 use Rattle.bits.specs.Bits.{bit}
-use Rattle.bits.specs.Laws.{and_left, and_right, neither_left, neither_right}
+use Rattle.bits.proofs.Laws.{and_left, and_right, neither_left, neither_right}
 use Rattle.glyph.specs.declared.Glyph.{Glyph}
 use Rattle.glyph.specs.Sets.{in_set}
 use Rattle.verdict.specs.declared.Matcher.{Matcher}

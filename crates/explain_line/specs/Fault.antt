@@ -5,7 +5,7 @@ use Rattle.std.specs.Bool.{beq}
 use Rattle.std.proofs.Math.Bool.{and-false}
 use Rattle.std.proofs.Math.Numerals.{add-one}
 use Rattle.bits.specs.Bits.{every}
-use Rattle.bits.specs.Laws.{every_at}
+use Rattle.bits.proofs.Laws.{every_at}
 use Rattle.tape_frame.specs.Digits.{digit, is_digit, spells}
 use Rattle.tape_frame.specs.DigitLaws.{spells_odd}
 use Rattle.tape_frame.specs.Frame.{not_frame, frame_of, most_digits}

@@ -3,7 +3,7 @@ use Rattle.std.specs.Prelude.{◌≡◌, refl, false, not, List, [], ◌∷◌, 
 use Rattle.std.proofs.Common.{sym, ap, ◌∙◌, zero-add, suc-add, add-zero, add-suc, add-one, arith, eqb-true, ltb-false, eq-eqb, le-ltb, length-append, length-drop, take-append-drop, length-take-le, take_at, drop_at, drop-cons, get_or-drop}
 use Rattle.std.proofs.lemmas.Bool.{not-false}
 use Rattle.std.proofs.lemmas.List.{take-append-le, drop-append-le}
-use Rattle.bits.specs.Laws.{neither_left, neither_right}
+use Rattle.bits.proofs.Laws.{neither_left, neither_right}
 use Rattle.glyph.specs.Glyph.{words, limit, glyph_of, glyphs, glyphs_of, Row, ill_shaped, blank}
 
 length-glyphs : (n : ℕ) (w : List ℕ) → length (glyphs n w) ≡ n

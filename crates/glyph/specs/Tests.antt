@@ -2,7 +2,7 @@
 use Rattle.std.specs.Prelude.{◌≡◌, Bool, false, ◌||◌, List, ◌↔◌, ℕ, ◌%◌, ◌≤◌, ◌<◌, eqb, leb, ltb, length}
 use Rattle.std.proofs.Common.{arith, le-ltb, eq-eqb, ne_eqb, leb-false, ltb-false, eqb-true}
 use Rattle.std.proofs.lemmas.Bool.{lt-leb, eqb-false, not-false}
-use Rattle.bits.specs.Laws.{neither_left, neither_right}
+use Rattle.bits.proofs.Laws.{neither_left, neither_right}
 use Rattle.glyph.specs.Sets.{odd_sets}
 
 pub both : {P Q : Type 0} (a b : Bool) → ((a ≡ false) ↔ P) → ((b ≡ false) ↔ Q) → ((a || b) ≡ false) ↔ (P × Q)

@@ -1,7 +1,7 @@
 -- No second answer: a digest of which each bit is said is said whole.
 use Rattle.std.specs.Prelude.{Bool, ◌≡◌, ℕ, ◌^◌, ◌<◌}
 use Rattle.std.proofs.Common.{sym, ap, ◌∙◌}
-use Rattle.bits.specs.Same.{same_number}
+use Rattle.bits.proofs.Same.{same_number}
 use Rattle.rule_digest.specs.declared.RuleSetDigest.{RuleSetDigest}
 use Rattle.rule_digest.specs.Rule.{RuleSays}
 

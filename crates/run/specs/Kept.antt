@@ -7,7 +7,7 @@ use Rattle.std.proofs.Math.Path.{refl}
 use Rattle.std.proofs.Common.{sym, ap, ◌∙◌, arith, ltb-true, take-take}
 use mathlib.Core.List.{List, [], ◌∷◌}
 use Prim.Native.Nat.{ℕ, zero, suc, ◌≤◌, ◌<◌}
-use Rattle.bits.specs.Laws.{and_left, and_right}
+use Rattle.bits.proofs.Laws.{and_left, and_right}
 use Rattle.glyph.specs.declared.Glyph.{Glyph}
 use Rattle.text.specs.Text.{Text, moved_to}
 use Rattle.book.specs.Book.{Record, Lookup, Found, lookup_at}

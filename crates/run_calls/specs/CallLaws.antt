@@ -5,7 +5,7 @@ use Rattle.std.proofs.Math.Bool.{cond}
 use borrow.Author.Tests.{eq-eqb, leb-true, ltb-true, ltb-false, eqb-true}
 use Rattle.std.proofs.Math.Dec.{ltb}
 use Rattle.std.proofs.lemmas.List.{length-map}
-use Rattle.bits.specs.Laws.{and_left, and_right, neither_left}
+use Rattle.bits.proofs.Laws.{and_left, and_right, neither_left}
 use Rattle.glyph.specs.Glyph.{limit}
 use Rattle.glyph.specs.Sets.{odd_sets}
 use Rattle.text.specs.declared.Place.{Place}

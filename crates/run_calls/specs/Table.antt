@@ -4,7 +4,7 @@ use Rattle.std.specs.Prelude.{◌≡◌, refl, Bool, true, false, cond, not, ◌
 use Rattle.std.proofs.Common.{sym, ap, subst, ◌∙◌, true≢false, arith, le-leb, lt-ltb, eq-eqb, ne_eqb, leb-true, ltb-true, eqb-true, get_or-take}
 use Rattle.std.proofs.Math.Option.{none, some, some-ne-none}
 use Rattle.std.proofs.lemmas.Bool.{not-false}
-use Rattle.bits.specs.Laws.{and_left, and_right}
+use Rattle.bits.proofs.Laws.{and_left, and_right}
 use Rattle.glyph.specs.Glyph.{words, limit}
 use Rattle.glyph.specs.Sets.{odd_sets}
 use Rattle.glyph.specs.Tests.{both, at_or_past, over, paired}

@@ -2,7 +2,7 @@
 use Rattle.std.proofs.Common.{◌≡◌, ℕ, ◌+◌, ◌<◌, Bool, true, false, cond, eqb, ltb, List, length, get_or, set, ap, ◌∙◌, arith}
 use Rattle.std.proofs.Common.{get_or-set_other, get_or-set_same, lt-ltb, eqb-true}
 use borrow.Author.Tests.{eqb-false}
-use Rattle.bits.specs.Laws.{ltb_same}
+use Rattle.bits.proofs.Laws.{ltb_same}
 
 module _ (xs ys : List ℕ) (f : ℕ → ℕ) (k v : ℕ) (h : k < length xs) (e : (j : ℕ) → get_or xs j 0 ≡ cond (ltb j k) (f j) (get_or ys j 0))
     (g : v ≡ f k) where

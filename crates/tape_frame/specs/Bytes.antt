@@ -2,7 +2,7 @@
 use Rattle.std.specs.Prelude.{ℕ, zero, suc, ◌+◌, ◌*◌, ◌/◌, ◌%◌, ◌<◌, ◌≡◌, refl, List, [], ◌∷◌, ◌++◌, true, eqb, length, drop}
 use Rattle.std.proofs.Common.{ap, arith, eqb-true, get_or-drop}
 use Rattle.bits.specs.Bits.{every}
-use Rattle.bits.specs.Laws.{every_at}
+use Rattle.bits.proofs.Laws.{every_at}
 use Rattle.tape_frame.specs.Digits.{digit, is_digit, spells, bytes_of}
 use Rattle.tape_frame.specs.Frame.{half_at, word_at, words_at}
 use Rattle.tape_frame.specs.Line.{capital, digits_of, half, word, word_bytes}

@@ -9,7 +9,7 @@ use native.Mathlib.Omega.{arith}
 use Rattle.std.proofs.Math.ListN.{length, get_or, drop}
 use Rattle.std.proofs.Math.Seq.{drop-length}
 use Rattle.bits.specs.Bits.{every}
-use Rattle.bits.specs.Laws.{every_at, and_left, and_right}
+use Rattle.bits.proofs.Laws.{every_at, and_left, and_right}
 use Rattle.glyph.specs.Glyph.{words, glyphs_of}
 use Rattle.glyph.specs.Laws.{length_row}
 use Rattle.verdict.specs.declared.Table.{Table}

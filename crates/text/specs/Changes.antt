@@ -4,7 +4,7 @@ use Rattle.std.specs.Prelude.{◌≡◌, refl, false, ◌||◌, List, ◌++◌, 
 use Rattle.std.proofs.Common.{sym, ap, ◌∙◌, append_assoc, arith, eqb-true, ltb-false, leb-false, eq-eqb, le-ltb, length-append, length-drop, length-take-le, take_at, drop_at, get_or-take}
 use Rattle.std.proofs.lemmas.Bool.{not-false, lt-leb}
 use Rattle.std.proofs.lemmas.List.{length-map}
-use Rattle.bits.specs.Laws.{neither_left, neither_right}
+use Rattle.bits.proofs.Laws.{neither_left, neither_right}
 use Rattle.glyph.specs.declared.Glyph.{Glyph}
 use Rattle.glyph.specs.Glyph.{words, limit, glyphs_of, blank}
 use Rattle.text.specs.declared.Place.{Place}

@@ -2,7 +2,7 @@
 use Rattle.std.specs.Prelude.{ℕ, ◌<◌, List, ◌≡◌, false, leb, length}
 use Rattle.std.proofs.Common.{leb-false}
 use Rattle.glyph.specs.Glyph.{glyphs_of, ill_shaped}
-use Rattle.bits.specs.Laws.{neither_right}
+use Rattle.bits.proofs.Laws.{neither_right}
 use Rattle.verdict_ask.specs.Ask.{bad_place}
 
 pub good_place : (row : List ℕ) (place : ℕ) → bad_place row place ≡ false → place < length (glyphs_of row)

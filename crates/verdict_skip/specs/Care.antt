@@ -6,7 +6,7 @@ use Rattle.std.specs.Bool.{beq}
 use Rattle.std.specs.Int.Bits.{bit_and}
 use Rattle.std.proofs.lemmas.Nat.{and_mod, and_le_r}
 use Rattle.bits.specs.Bits.{every}
-use Rattle.bits.specs.Laws.{every_at}
+use Rattle.bits.proofs.Laws.{every_at}
 use Rattle.verdict.specs.Verdict.{ignorable_by}
 
 abbrev pub care_of : Bool → Bool → Bool → ℕ

@@ -3,7 +3,7 @@ use Rattle.std.specs.Prelude.{ℕ, ◌+◌, ◌≤◌, ◌≡◌, refl, List, �
 use Rattle.std.proofs.Common.{ap, ltb-false}
 use Rattle.glyph.specs.Glyph.{glyphs_of, ill_shaped}
 use Rattle.glyph.specs.Sets.{odd_sets}
-use Rattle.bits.specs.Laws.{neither_left, neither_right}
+use Rattle.bits.proofs.Laws.{neither_left, neither_right}
 use Rattle.verdict.specs.declared.Matcher.{Matcher}
 use Rattle.verdict.specs.Verdict.{Asked, judge_at}
 use Rattle.walk.specs.declared.Walked.{Walked}

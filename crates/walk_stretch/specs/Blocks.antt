@@ -7,7 +7,7 @@ use Rattle.std.proofs.Math.Dec.{leb}
 use Rattle.std.specs.Int.Bits.{bit_and, bit_xor, xor_zero_r, xor_self}
 use Rattle.std.proofs.lemmas.Nat.{and_le_l, and_le_r, xor_mod, xor_shr}
 use Rattle.bits.specs.Bits.{bit}
-use Rattle.bits.specs.Laws.{and_left, and_right, and_both, and_bit, or_mono, and_mono}
+use Rattle.bits.proofs.Laws.{and_left, and_right, and_both, and_bit, or_mono, and_mono}
 use Rattle.glyph.specs.declared.Glyph.{Glyph}
 use Rattle.glyph.specs.Glyph.{blank}
 use Rattle.verdict.specs.Verdict.{ignored_class, is_mark, uses_set, class_asked, class_of, other_mark}

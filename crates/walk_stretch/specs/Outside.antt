@@ -1,7 +1,7 @@
 -- The code's side: marks outside the set that a lookup names, shown by a digest that admits each glyph of the set.
 use Rattle.std.specs.Prelude.{ℕ, ◌+◌, ◌*◌, ◌/◌, ◌<◌, ◌≤◌, List, ◌≡◌, refl, Bool, true, false, not, ◌&&◌, ◌||◌, eqb, length, get_or, drop}
 use Rattle.std.proofs.Common.{sym, ap, ◌∙◌, true≢false, arith, eqb-true}
-use Rattle.bits.specs.Laws.{and_left, and_right, or_left, or_right, every_at, every_so}
+use Rattle.bits.proofs.Laws.{and_left, and_right, or_left, or_right, every_at, every_so}
 use Rattle.glyph.specs.declared.Glyph.{Glyph}
 use Rattle.glyph.specs.Glyph.{blank}
 use Rattle.glyph.specs.Sets.{in_set}

@@ -5,7 +5,7 @@ use Rattle.std.specs.Prelude.{◌≡◌, List, ◌↔◌, Bool, true, false, ◌
 use Rattle.std.proofs.Math.Path.{refl, ap}
 use Rattle.std.proofs.Common.{sym, ◌∙◌, subst, arith, le-ltb}
 use Rattle.std.proofs.Math.Bool.{true≢false}
-use Rattle.bits.specs.Laws.{neither_left, neither_right}
+use Rattle.bits.proofs.Laws.{neither_left, neither_right}
 use Rattle.glyph.specs.Glyph.{glyphs_of, ill_shaped}
 use Rattle.glyph.specs.Sets.{odd_sets}
 use Rattle.verdict.specs.declared.Matcher.{Matcher}

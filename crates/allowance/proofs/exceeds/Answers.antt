@@ -1,7 +1,7 @@
 -- A quotient is below count exactly when the number is below count times the divisor. Assumes nothing.
 use Rattle.std.proofs.Common.{ap, arith, div-lt_iff_lt-mul, le-div_iff_mul-le, ltb, mul-zero, sym, ℕ, ◌*◌, ◌/◌, ◌∙◌}
 use borrow.Author.Tests.{le-ltb}
-use Rattle.bits.specs.Laws.{ltb_same}
+use Rattle.bits.proofs.Laws.{ltb_same}
 use Rattle.allowance.proofs.exceeds.Goals as goal
 
 pub returns-then-size-eq0 : goal.returns-then-size-eq0

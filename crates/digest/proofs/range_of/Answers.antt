@@ -1,6 +1,6 @@
 -- All bits where the range is wide, else the arc. Assumes nothing.
 use Rattle.std.proofs.Common.{◌∙◌, lt-ltb}
-use Rattle.bits.specs.Laws.{ones_bit}
+use Rattle.bits.proofs.Laws.{ones_bit}
 use Rattle.digest.proofs.range_of.Goals as goal
 
 pub returns-then-is_wide : goal.returns-then-is_wide

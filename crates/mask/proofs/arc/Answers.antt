@@ -2,7 +2,7 @@
 use Rattle.std.proofs.Common.{Bool, arith, false, leb, refl, true, ◌%◌, ◌&&◌, ◌||◌, ◌∙◌, ◌≡◌}
 use lib.Dec.{leb-zero}
 use borrow.Author.Tests.{le-leb, lt-leb}
-use Rattle.bits.specs.Laws.{or_bit}
+use Rattle.bits.proofs.Laws.{or_bit}
 use Rattle.mask.proofs.arc.Goals as goal
 
 and-true : (a b : Bool) → ((a && true) || b) ≡ (a || b)

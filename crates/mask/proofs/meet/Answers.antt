@@ -1,6 +1,6 @@
 -- A bitwise AND is 0 only where no bit is common. Assumes nothing.
 use Rattle.std.proofs.Common.{arith}
-use Rattle.bits.specs.Same.{common_bit}
+use Rattle.bits.proofs.Same.{common_bit}
 use Rattle.mask.proofs.meet.Goals as goal
 
 pub returns : goal.returns

@@ -1,7 +1,7 @@
 -- The sum of powers is below 2 ^ 64, since 2 ^ (b + 1) is at most that. Assumes nothing.
 use Rattle.std.proofs.Common.{arith, ◌+◌}
 use lib.Pow.{pow-add, pow_pos}
-use Rattle.bits.specs.Laws.{shifted, span_bit, pow_le}
+use Rattle.bits.proofs.Laws.{shifted, span_bit, pow_le}
 use Rattle.mask.proofs.span.Goals as goal
 
 pub overflow_sub-result : goal.overflow_sub-result

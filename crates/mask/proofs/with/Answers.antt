@@ -1,7 +1,7 @@
 -- A power has the one bit. Assumes nothing.
 use Rattle.std.proofs.Common.{Bool, ap, arith, ◌%◌, ◌^◌, ◌||◌, ◌∙◌}
 use Rattle.bits.specs.Bits.{bit}
-use Rattle.bits.specs.Laws.{or_bit, power_bit, shifted}
+use Rattle.bits.proofs.Laws.{or_bit, power_bit, shifted}
 use Rattle.mask.proofs.with.Goals as goal
 
 pub returns : goal.returns

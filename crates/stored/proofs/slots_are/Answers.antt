@@ -1,6 +1,6 @@
 -- A turn asks of one slot more; all before it hold what is stored. Assumes nothing.
 use Rattle.std.proofs.Common.{true, sym, refl, ◌∙◌, arith, eq-eqb, ne_eqb}
-use Rattle.bits.specs.Laws.{every_none, every_more, every_not}
+use Rattle.bits.proofs.Laws.{every_none, every_more, every_not}
 use Rattle.stored.specs.Stored.{slot_is}
 use Rattle.stored.proofs.slots_are.Goals as goal
 

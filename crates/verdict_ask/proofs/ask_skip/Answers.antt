@@ -2,7 +2,7 @@
 use Rattle.std.proofs.Common.{ap, sym, ◌∙◌}
 use Rattle.verdict_ask.specs.declared.SkipAnswer.{SkipAnswer}
 use Rattle.verdict_ask.specs.Ask.{ask_skip}
-use Rattle.bits.specs.Laws.{neither_left}
+use Rattle.bits.proofs.Laws.{neither_left}
 use Rattle.verdict_ask.specs.Laws.{good_place}
 use Rattle.verdict_ask.proofs.ask_skip.Goals as goal
 

@@ -2,7 +2,7 @@
 use Rattle.std.proofs.Common.{ap, sym, ◌∙◌}
 use Rattle.verdict_ask.specs.declared.VerdictAnswer.{VerdictAnswer}
 use Rattle.verdict_ask.specs.Ask.{ask_verdict}
-use Rattle.bits.specs.Laws.{neither_left}
+use Rattle.bits.proofs.Laws.{neither_left}
 use Rattle.verdict_ask.specs.Laws.{good_place}
 use Rattle.verdict_ask.proofs.ask_verdict.Goals as goal
 

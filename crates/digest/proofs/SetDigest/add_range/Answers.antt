@@ -1,7 +1,7 @@
 -- A full digest keeps its bits; else a turn makes one mask more, and notes whether the range was narrow there. Assumes nothing.
 use Rattle.std.proofs.Common.{◌≡◌, Bool, true, false, ◌||◌, get_or, sym, refl, ap, ◌∙◌, arith, length-set}
 use Rattle.bits.specs.Bits.{bit, every}
-use Rattle.bits.specs.Laws.{or_bit, every_at}
+use Rattle.bits.proofs.Laws.{or_bit, every_at}
 use Rattle.digest.specs.Digest.{bits_of, wide, ranged, every_bit}
 use Rattle.digest.proofs.Masks.{made_more, noted_more, noted_none}
 use Rattle.digest.proofs.SetDigest.add_range.Goals as goal

@@ -2,7 +2,7 @@
 use Rattle.std.proofs.Common.{ap, ◌∙◌, lt-ltb}
 use lib.ListN.{get_or-replicate}
 use Rattle.bits.specs.Bits.{bit}
-use Rattle.bits.specs.Laws.{ones_bit}
+use Rattle.bits.proofs.Laws.{ones_bit}
 use Rattle.digest.proofs.SetDigest.full.Goals as goal
 
 pub returns : goal.returns

@@ -1,8 +1,8 @@
 -- A turn tests one full mask more. Assumes nothing.
 use Rattle.std.proofs.Common.{not, ap, get_or, sym, ◌∙◌, arith}
 use Rattle.bits.specs.Bits.{bit, every}
-use Rattle.bits.specs.Laws.{every_not}
-use Rattle.bits.specs.Laws.{every_none, every_more, every_done}
+use Rattle.bits.proofs.Laws.{every_not}
+use Rattle.bits.proofs.Laws.{every_none, every_more, every_done}
 use Rattle.digest.proofs.SetDigest.is_full.Goals as goal
 
 pub loop-i-init : goal.loop-i-init

@@ -1,7 +1,7 @@
 -- The first mask is asked by itself, the other two together. Assumes nothing.
 use Rattle.std.proofs.Common.{◌≡◌, ℕ, ◌/◌, ◌%◌, ◌^◌, Bool, true, ◌&&◌, List, get_or, sym, ap, ◌∙◌, arith}
 use Rattle.bits.specs.Bits.{bit, every}
-use Rattle.bits.specs.Laws.{every_not}
+use Rattle.bits.proofs.Laws.{every_not}
 use Rattle.digest.specs.Digest.{shift, place}
 use Rattle.digest.proofs.SetDigest.may_have.Goals as goal
 

@@ -1,8 +1,8 @@
 -- A turn tests one mask more in which a bit is common. Assumes nothing.
 use Rattle.std.proofs.Common.{not, ap, ◌&&◌, get_or, sym, ◌∙◌, arith}
 use Rattle.bits.specs.Bits.{bit, some}
-use Rattle.bits.specs.Laws.{every_not}
-use Rattle.bits.specs.Laws.{every_none, every_more, every_done}
+use Rattle.bits.proofs.Laws.{every_not}
+use Rattle.bits.proofs.Laws.{every_none, every_more, every_done}
 use Rattle.digest.proofs.SetDigest.may_intersect.Goals as goal
 
 pub loop-i-init : goal.loop-i-init

@@ -2,7 +2,7 @@
 use Rattle.std.proofs.Common.{ap, ◌∙◌}
 use lib.ListN.{get_or-replicate}
 use Rattle.bits.specs.Bits.{bit}
-use Rattle.bits.specs.Laws.{zero_bit}
+use Rattle.bits.proofs.Laws.{zero_bit}
 use Rattle.digest.proofs.SetDigest.new.Goals as goal
 
 pub returns : goal.returns

@@ -1,7 +1,7 @@
 -- A turn makes one mask more, joined of two. Assumes nothing.
 use Rattle.std.proofs.Common.{get_or, refl, arith, length-set}
 use Rattle.bits.specs.Bits.{bit}
-use Rattle.bits.specs.Laws.{or_bit}
+use Rattle.bits.proofs.Laws.{or_bit}
 use Rattle.digest.specs.Digest.{united}
 use Rattle.digest.proofs.Masks.{made_more}
 use Rattle.digest.proofs.SetDigest.union.Goals as goal

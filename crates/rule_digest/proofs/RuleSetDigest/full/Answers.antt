@@ -1,7 +1,7 @@
 -- The largest mask has every bit. Assumes nothing.
 use Rattle.std.proofs.Common.{◌∙◌}
 use borrow.Author.Tests.{lt-ltb}
-use Rattle.bits.specs.Laws.{ones_bit}
+use Rattle.bits.proofs.Laws.{ones_bit}
 use Rattle.rule_digest.proofs.RuleSetDigest.full.Goals as goal
 
 pub returns : goal.returns

@@ -1,5 +1,5 @@
 -- 0 has no bit. Assumes nothing.
-use Rattle.bits.specs.Laws.{zero_bit}
+use Rattle.bits.proofs.Laws.{zero_bit}
 use Rattle.rule_digest.proofs.RuleSetDigest.new.Goals as goal
 
 pub returns : goal.returns

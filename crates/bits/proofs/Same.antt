@@ -6,7 +6,7 @@ use Rattle.std.specs.Int.Bits.{bit_and}
 use Rattle.std.proofs.lemmas.Nat.{and_le_l}
 use Rattle.std.proofs.Math.Pow.{ones_lt}
 use Rattle.bits.specs.Bits.{bit, every, some}
-use Rattle.bits.specs.Laws.{and_both, and_bit, zero_bit, ones_bit, some_at, some_none, every_at, every_so}
+use Rattle.bits.proofs.Laws.{and_both, and_bit, zero_bit, ones_bit, some_at, some_none, every_at, every_so}
 
 -- two numbers below 2 that test alike
 same_low : (x y : ℕ) → x < 2 → y < 2 → eqb x 1 ≡ eqb y 1 → x ≡ y
