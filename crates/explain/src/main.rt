@@ -17,11 +17,14 @@ ghost use Rattle.tape_answer.specs.Feeding.{most_kept};
 use crate::words::ROOM;
 use explain_glyph::{Joined, Turn};
 use glyph::Glyph;
-use libc::{STDERR_FILENO, STDIN_FILENO};
 use ligature::{Base, Ligbase};
 use matching::{InputAnswer, Terms};
+use std::io::{Read, Stdin};
 use tape_frame::{Decoded, Head};
 use verdict::{Matcher, Sign, Table, Test};
+
+// Standard error, by its number.
+const STDERR: i32 = 2;
 
 // What is kept from read to read: the bytes of the line so far, and the number of lines before it. No more is read where the input has ended or where
 // answers are lost.
@@ -340,13 +343,19 @@ fn take_piece(piece: &[u8], kept: &mut [u8; tape_answer::MOST_KEPT], n: usize, l
     }
 }
 
-fn one_read(kept: &mut [u8; tape_answer::MOST_KEPT], n: usize, lines: u64) -> Turns
+// One read, and what its lines are told. A read that fails counts as the end of the input.
+fn one_read(
+    stdin: &mut Stdin,
+    kept: &mut [u8; tape_answer::MOST_KEPT],
+    n: usize,
+    lines: u64,
+) -> Turns
     requires { n ≤ most_kept }
     ensures { result.kept ≤ most_kept }
 {
     let mut space = io::large_buffer();
-    let got = libc::read(STDIN_FILENO, &mut space);
-    if got <= 0 {
+    let size = stdin.read(&mut space).unwrap_or(0);
+    if size == 0 {
         return Turns {
             kept: n,
             lines,
@@ -354,19 +363,18 @@ fn one_read(kept: &mut [u8; tape_answer::MOST_KEPT], n: usize, lines: u64) -> Tu
             lost: false,
         };
     }
-    let size = io::count(got, &space);
     take_piece(&space[..size], kept, n, lines)
 }
 
 // Reads to the end, or until answers are lost, and says what is kept of a last line that lacks its 0A.
-fn read_all(kept: &mut [u8; tape_answer::MOST_KEPT]) -> Turns
+fn read_all(stdin: &mut Stdin, kept: &mut [u8; tape_answer::MOST_KEPT]) -> Turns
     ensures { result.kept ≤ most_kept }
 {
     let mut n = 0;
     let mut lines = 0;
     let mut turns = u64::MAX;
     while turns > 0 {
-        let t = one_read(kept, n, lines);
+        let t = one_read(stdin, kept, n, lines);
         n = t.kept;
         lines = t.lines;
         if !t.more {
@@ -384,11 +392,11 @@ fn read_all(kept: &mut [u8; tape_answer::MOST_KEPT]) -> Turns
 
 // A program has no exit status of its own: who starts it learns from this line that answers are missing.
 fn complain() {
-    io::write_all(STDERR_FILENO, b"explain: answers could not be written\n");
+    io::write_all(STDERR, b"explain: answers could not be written\n");
 }
 
-fn run(kept: &mut [u8; tape_answer::MOST_KEPT]) {
-    let t = read_all(kept);
+fn run(stdin: &mut Stdin, kept: &mut [u8; tape_answer::MOST_KEPT]) {
+    let t = read_all(stdin, kept);
     if t.lost {
         complain();
         return;
@@ -403,7 +411,8 @@ fn run(kept: &mut [u8; tape_answer::MOST_KEPT]) {
     }
 }
 
-fn main() {
+fn main(rt: HostRuntime) {
+    let mut stdin = rt.stdin();
     let mut kept = [0u8; tape_answer::MOST_KEPT];
-    run(&mut kept);
+    run(&mut stdin, &mut kept);
 }

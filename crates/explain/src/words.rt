@@ -3,7 +3,8 @@
 ghost use Rattle.std.specs.Prelude.{◌≡◌, ◌+◌, ◌≤◌, length};
 ghost use Rattle.explain_line.specs.Words.{EndsIn};
 
-use libc::STDOUT_FILENO;
+// Standard output, by its number.
+const STDOUT: i32 = 1;
 
 pub const COLUMNS: usize = 100;
 
@@ -30,7 +31,7 @@ pub(crate) fn end(text: &mut [u8; ROOM], at: usize)
     text[at] = b'\n';
     let size = at + 1;
     let all = &text[..];
-    if !io::write_all(STDOUT_FILENO, &all[0..size]) {
+    if !io::write_all(STDOUT, &all[0..size]) {
         text[LOST] = 1;
     }
 }
