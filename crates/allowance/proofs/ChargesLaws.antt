@@ -1,7 +1,7 @@
 -- Of charges made one after another, whatever they are: what was taken plus what remains is what was opened, in each counter, and a charge that is
 -- Exhausted changes nothing. By induction on the charges, with the law of one charge (Laws). That the bytes are at most `most` holds of every
 -- allowance: a counter has 64 bits.
-use Rattle.std.specs.Prelude.{Bool, true, false, List, [], ◌∷◌, ◌++◌, ◌≡◌, ℕ, ◌+◌, ◌*◌, ◌≤◌}
+use Rattle.std.specs.Prelude.{List, [], ◌∷◌, ◌++◌, ◌≡◌, ℕ, ◌+◌, ◌*◌, ◌≤◌}
 use Rattle.std.proofs.Common.{true≢false, ap, ◌∙◌, arith}
 use Rattle.allowance.specs.declared.Budget.{Budget}
 use Rattle.allowance.specs.declared.Charge.{Charge}
