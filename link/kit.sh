@@ -8,7 +8,7 @@ if [ "$(uname -m)" != x86_64 ]; then
     echo "$0: the toolchain, and what it builds, is for x86-64; for this processor, $(uname -m), all of it is left out" >&2
     exit 2
 fi
-guide=$(rt doc)
+guide=$(rt doc </dev/null)
 kit=${guide%/*}
 # shellcheck disable=SC2034
 tools=$kit/toolchain
