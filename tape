@@ -11,10 +11,9 @@ case ${1-} in
 esac
 # shellcheck source=link/kit.sh
 . "$root/link/kit.sh"
-(cd "$root" && rt check bench_tape </dev/null) >&2
-program=$root/target/bin/bench_tape
+build_program bench_tape
 if [ -n "$input" ]; then
     echo "$0: running on samples/tape.txt, which samples/README.md explains" >&2
     exec < "$input"
 fi
-on_kit_told "$program"
+run_told "$program"

@@ -1,7 +1,7 @@
 /* conchibaru.h: what libdesk.a offers, for C99 and C++ on x86-64 Linux.
  *
- *     rt staticlib desk                                       proves the library and writes target/staticlib/libdesk.a
- *     cc -Iinclude mine.c target/staticlib/libdesk.a          links it; it needs no other library
+ *     (cd crates/desk && rt lib)                         proves the library and writes crates/desk/out/libdesk.a
+ *     cc -Iinclude mine.c crates/desk/out/libdesk.a      links it; it needs no other library
  *
  * Document 01 (docs/01-scope.md) has the rules, and its words are used here. Every call ends, any words may be handed in, and what
  * isn't accepted is refused by its number. No call keeps a pointer, allocates, or has anything of its own that lasts, so calls

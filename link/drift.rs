@@ -217,16 +217,31 @@ fn number_name(of: &str, variant: &str) -> String {
     format!("{}_{}", snake(of), snake(variant)).to_uppercase()
 }
 
+/// `#[derive(..)]`, which lays nothing out.
+fn pass_derives(r: &mut Reader) {
+    while r.starts(&["#", "[", "derive", "("]) {
+        while r.peek(0) != "]" && r.at < r.words.len() {
+            r.pass();
+        }
+        r.pass();
+    }
+}
+
 /// The desk: exported functions, structs as C lays them out, and the numbers in its matches, as `Refusal::Shape => 1`.
 fn read_desk(words: &[String]) -> Option<(Said, Vec<usize>)> {
     let mut said = Said::default();
     let mut r = Reader::new(words);
     while r.at < words.len() {
-        if r.starts(&["#", "[", "no_mangle", "]", "pub", "extern", "\"C\"", "fn"]) {
-            r.skip(8);
+        if r.starts(&["#", "[", "unsafe", "(", "no_mangle", ")", "]", "pub", "extern", "\"C\"", "fn"]) {
+            r.skip(11);
             rust_fn(&mut r, &mut said)?;
-        } else if r.starts(&["#", "[", "repr", "(", "C", ")", "]", "pub", "struct"]) {
-            r.skip(9);
+        } else if r.starts(&["#", "[", "repr", "(", "C", ")", "]"]) {
+            r.skip(7);
+            pass_derives(&mut r);
+            if !r.starts(&["pub", "struct"]) {
+                return None;
+            }
+            r.skip(2);
             rust_struct(&mut r, &mut said)?;
         } else if r.peek(1) == "::" && r.peek(3) == "=>" && is_name(r.peek(0)) {
             // The header has one list of refusals, for the matchers' and for a run's.

@@ -1,6 +1,5 @@
 //! Links the proved library, and again whenever its archive was written anew. `CONCHIBARU_LIB` names the folder that has
-//! libdesk.a; else it is looked for where `rt staticlib desk` writes it, or, on a processor for which the toolchain makes
-//! none, where `link/run` leaves the same module compiled for it.
+//! libdesk.a; else it is looked for where `rt lib` in crates/desk writes it. It is for x86-64.
 use std::env;
 use std::path::PathBuf;
 
@@ -10,7 +9,7 @@ fn main() {
     let archive = folder.join("libdesk.a");
     println!("cargo:rerun-if-changed={}", archive.display());
     if !archive.is_file() {
-        eprintln!("there is no {}: `rt staticlib desk` makes it (elsewhere than on x86-64 `link/run` does)", archive.display());
+        eprintln!("there is no {}: `rt lib` in crates/desk makes it", archive.display());
         std::process::exit(1);
     }
     println!("cargo:rustc-link-search=native={}", folder.display());
@@ -18,6 +17,5 @@ fn main() {
 }
 
 fn default_folder() -> PathBuf {
-    let made = if env::var("CARGO_CFG_TARGET_ARCH").as_deref() == Ok("x86_64") { "staticlib" } else { "link/native" };
-    PathBuf::from(env::var_os("CARGO_MANIFEST_DIR").expect("cargo sets it")).join("../../target").join(made)
+    PathBuf::from(env::var_os("CARGO_MANIFEST_DIR").expect("cargo sets it")).join("../../crates/desk/out")
 }

@@ -95,13 +95,13 @@ fn tape(bytes: &[u8]) -> String {
 
 // Each piece comes in a read of its own.
 fn tape_in_reads(pieces: &[&[u8]]) -> String {
-    libc::READY.with(|ready| *ready.borrow_mut() = pieces.iter().map(|p| p.to_vec()).collect());
-    bench_tape::main();
-    libc::WRITTEN.with(|written| String::from_utf8_lossy(&written.borrow()).replace('\n', " "))
+    host::READY.with(|ready| *ready.borrow_mut() = pieces.iter().map(|p| p.to_vec()).collect());
+    bench_tape::main(host::HostRuntime);
+    host::WRITTEN.with(|written| String::from_utf8_lossy(&written.borrow()).replace('\n', " "))
 }
 
 fn tape_to_full_device(pieces: &[&[u8]]) -> String {
-    libc::FULL.with(|full| full.set(true));
+    host::FULL.with(|full| full.set(true));
     tape_in_reads(pieces)
 }
 

@@ -1,6 +1,6 @@
 //! Conchibaru from Rust: a glyph matcher that is proved to meet its definitions, after harfrust 0.15.0, behind safe calls.
 //!
-//! The proved library is `libdesk.a`; `rt staticlib desk` makes it, for x86-64 Linux. This crate has no other dependency. It adds
+//! The proved library is `libdesk.a`; `rt lib` in crates/desk makes it, for x86-64 Linux. This crate has no other dependency. It adds
 //! types and names, and decides nothing: each answer is the library's. docs/01-scope.md ("document 01") has the rules.
 //!
 //! - **Any words may be handed in.** Every call ends, stays within its slices, and refuses what it doesn't accept by document
