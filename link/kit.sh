@@ -1,5 +1,5 @@
 # Sourced by the scripts that use the toolchain. Sets kit, its folder, and tools, its compiler and what that links; and what else they share.
-# shellcheck shell=sh
+# shellcheck shell=sh disable=SC2034,SC2154
 if ! command -v rt >/dev/null; then
     echo "$0: there is no rt, the command of the Rattle toolchain, on the PATH" >&2
     exit 2
@@ -10,7 +10,6 @@ if [ "$(uname -m)" != x86_64 ]; then
 fi
 guide=$(rt doc </dev/null)
 kit=${guide%/*}
-# shellcheck disable=SC2034
 tools=$kit/toolchain
 
 # Proves and builds the program NAME of the repository at root, unless it is so already, and sets program to its path. What rt says goes to standard

@@ -1,16 +1,13 @@
 //! Runs the original and the proved library on the same inputs and compares
 //! every answer. `compare/run` builds and starts it; README.md says how.
 
-// Rust's own start-up reads /proc/self/maps, at which the emulator that comes
-// with the toolchain crashes; C's start-up doesn't.
+// Rust's own start-up has SIGPIPE ignored; C's leaves it as our tape program is
+// to find it.
 #![no_main]
 
 mod allowances;
 // bindings/rust/src/c.rs, to which compare/run makes a link
-#[cfg_attr(not(target_arch = "x86_64"), allow(dead_code))]
 mod c;
-#[cfg(not(target_arch = "x86_64"))]
-mod customs;
 mod differences;
 mod digests;
 mod draw;

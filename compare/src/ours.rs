@@ -7,31 +7,6 @@ use crate::paper::matchers::Text;
 use crate::runs::Case;
 use original::terms::{Call, Matched, May, Role, Setup, Test, Testing, Verdict, Walked};
 
-// The calls that need more registers than x86-64 has, and how they take a struct.
-#[cfg(target_arch = "x86_64")]
-mod wide {
-    pub use crate::c::{
-        cb_backward, cb_forward, cb_match_backtrack, cb_match_input, cb_match_lookahead,
-        cb_may_match, cb_run, cb_verdict,
-    };
-    pub fn hand<T: Copy>(what: &T) -> T {
-        *what
-    }
-}
-#[cfg(not(target_arch = "x86_64"))]
-mod wide {
-    pub use crate::customs::{
-        module_cb_backward as cb_backward, module_cb_forward as cb_forward,
-        module_cb_match_backtrack as cb_match_backtrack, module_cb_match_input as cb_match_input,
-        module_cb_match_lookahead as cb_match_lookahead, module_cb_may_match as cb_may_match,
-        module_cb_run as cb_run, module_cb_verdict as cb_verdict,
-    };
-    pub fn hand<T>(what: &T) -> &T {
-        what
-    }
-}
-use wide::hand;
-
 /// A walk's answer as it is handed over: 0 found, 4 stopped or ran out, 1
 /// refused.
 #[derive(Clone, Copy, Debug, PartialEq, Eq)]
@@ -229,9 +204,7 @@ impl Row<'_> {
         let row = self.words;
         let lookup = lookup(self.setup);
         let context = is_context(role);
-        unsafe {
-            wide::cb_may_match(row.as_ptr(), row.len(), place, lookup, context, hand(&sign.in_c()))
-        }
+        unsafe { c::cb_may_match(row.as_ptr(), row.len(), place, lookup, context, sign.in_c()) }
     }
 
     pub fn verdict(&self, role: Role, place: usize, sign: Sign) -> CSaid {
@@ -239,7 +212,7 @@ impl Row<'_> {
         let (p, words, q, n) = (row.as_ptr(), row.len(), sets.as_ptr(), sets.len());
         let lookup = lookup(self.setup);
         let context = is_context(role);
-        unsafe { wide::cb_verdict(p, words, place, lookup, context, hand(&sign.in_c()), q, n) }
+        unsafe { c::cb_verdict(p, words, place, lookup, context, sign.in_c(), q, n) }
     }
 
     pub fn forward(&self, role: Role, len: usize, place: usize, sign: Sign) -> CWalked {
@@ -247,8 +220,7 @@ impl Row<'_> {
         let (p, words, q, n) = (row.as_ptr(), row.len(), sets.as_ptr(), sets.len());
         let lookup = lookup(self.setup);
         let context = is_context(role);
-        unsafe { wide::cb_forward(p, words, len, place, lookup, context, hand(&sign.in_c()), q, n) }
-            .into()
+        unsafe { c::cb_forward(p, words, len, place, lookup, context, sign.in_c(), q, n) }.into()
     }
 
     pub fn backward(&self, role: Role, place: usize, sign: Sign) -> CWalked {
@@ -256,8 +228,7 @@ impl Row<'_> {
         let (p, words, q, n) = (row.as_ptr(), row.len(), sets.as_ptr(), sets.len());
         let lookup = lookup(self.setup);
         let context = is_context(role);
-        unsafe { wide::cb_backward(p, words, place, lookup, context, hand(&sign.in_c()), q, n) }
-            .into()
+        unsafe { c::cb_backward(p, words, place, lookup, context, sign.in_c(), q, n) }.into()
     }
 }
 
@@ -339,14 +310,13 @@ pub fn matched(text: &Text, call: Call, test: u8, values: &[u32]) -> Answer {
     }
 }
 
-/// Calls one of the matchers on a text, with what goes before the text's
-/// arguments and between its cursor and the lookup.
+/// Calls one of the matchers on a text, with what goes between its cursor and
+/// the lookup.
 macro_rules! call {
-    ($name:ident, [$($before:expr)?], $text:expr, [$($start:expr)?], $test:expr, $values:expr) => {{
+    ($name:ident, $text:expr, [$($start:expr)?], $test:expr, $values:expr) => {{
         let Text { setup, done, d, coming, len, idx } = *$text;
         unsafe {
-            wide::$name(
-                $($before,)?
+            c::$name(
                 done.as_ptr(),
                 done.len(),
                 d,
@@ -355,7 +325,7 @@ macro_rules! call {
                 len,
                 idx,
                 $($start,)?
-                hand(&lookup(setup)),
+                lookup(setup),
                 setup.sets.as_ptr(),
                 setup.sets.len(),
                 $test,
@@ -366,21 +336,16 @@ macro_rules! call {
     }};
 }
 
-#[cfg(target_arch = "x86_64")]
 pub fn match_input(text: &Text, test: u8, values: &[u32], answer: &mut CMatched) {
-    *answer = call!(cb_match_input, [], text, [], test, values);
-}
-#[cfg(not(target_arch = "x86_64"))]
-pub fn match_input(text: &Text, test: u8, values: &[u32], answer: &mut CMatched) {
-    call!(cb_match_input, [answer], text, [], test, values);
+    *answer = call!(cb_match_input, text, [], test, values);
 }
 
 pub fn match_lookahead(text: &Text, start: usize, test: u8, values: &[u32]) -> CPlaced {
-    call!(cb_match_lookahead, [], text, [start], test, values)
+    call!(cb_match_lookahead, text, [start], test, values)
 }
 
 pub fn match_backtrack(text: &Text, test: u8, values: &[u32]) -> CPlaced {
-    call!(cb_match_backtrack, [], text, [], test, values)
+    call!(cb_match_backtrack, text, [], test, values)
 }
 
 // ---- runs
@@ -413,37 +378,24 @@ pub fn run(case: &Case, done: &mut [u32], coming: &mut [u32]) -> CRan {
         syllables: setup.per_syllable,
         mask: setup.mask,
     };
-    macro_rules! call {
-        ($($answer:expr)?) => {
-            unsafe {
-                wide::cb_run(
-                    $($answer,)?
-                    done.as_mut_ptr(),
-                    done.len(),
-                    coming.as_mut_ptr(),
-                    coming.len(),
-                    *d,
-                    *idx,
-                    setup.sets.as_ptr(),
-                    setup.sets.len(),
-                    book.as_ptr(),
-                    book.len(),
-                    records.as_ptr(),
-                    records.len(),
-                    hand(matched),
-                    hand(&switches),
-                    *allowance,
-                    *depth,
-                )
-            }
-        };
-    }
-    #[cfg(target_arch = "x86_64")]
-    return call!();
-    #[cfg(not(target_arch = "x86_64"))]
-    {
-        let mut answer = CRan { number: u8::MAX, ..CRan::NOTHING };
-        call!(&mut answer);
-        answer
+    unsafe {
+        c::cb_run(
+            done.as_mut_ptr(),
+            done.len(),
+            coming.as_mut_ptr(),
+            coming.len(),
+            *d,
+            *idx,
+            setup.sets.as_ptr(),
+            setup.sets.len(),
+            book.as_ptr(),
+            book.len(),
+            records.as_ptr(),
+            records.len(),
+            *matched,
+            switches,
+            *allowance,
+            *depth,
+        )
     }
 }

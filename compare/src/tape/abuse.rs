@@ -266,7 +266,7 @@ impl Abuse {
             format!("{how}, {}", if written >= MANY { "reads all" } else { "stops reading" })
         };
         let did = unread(piped());
-        self.report("the reader is gone", did, "ended by signal 13, stops reading");
+        self.report("the reader is gone", did, "status 0, stops reading");
         let mut command = piped();
         beforehand(&mut command, ignore_broken_pipes);
         let did = unread(command);
