@@ -55,7 +55,8 @@ pub adds_up : (charges : List Charging) (b : Budget) → b.bytes ≤ most → Ch
 unfolding sum_taken answers_to left_after
 adds_up [] b h = (omega arith, omega arith)
 adds_up (a ∷ more) b h =
-    adds_more (charged_for a b).charge a more (answers_to more (charged_for a b).left) b (charged_for a b).left (left_after more (charged_for a b).left)
+    adds_more (charged_for a b).charge a more (answers_to more (charged_for a b).left) b (charged_for a b).left
+    (left_after more (charged_for a b).left)
     (one_keeps a b h) (adds_up more (charged_for a b).left (left_within a b h))
 
 -- from the opening of a table of any size

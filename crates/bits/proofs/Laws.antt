@@ -1,7 +1,8 @@
 -- Laws of every and some, and the bits of a sum by bits, of a power, and of a run of ones.
 use Rattle.std.specs.Prelude.{Bool, not, ◌&&◌, ◌||◌, ◌≡◌, eqb, ltb, leb}
 use Rattle.std.proofs.Math.Bool.{true, false}
-use Rattle.std.proofs.Common.{true≢false, sym, ◌∙◌, eq-or-lt_of_le, lt_of_lt_of_le, le_of_lt, le_refl, pow-suc, one-mul, mul_assoc, add-one, pow_pos, pow-add, shr-shr, shl_exact, eq-eqb, ne_eqb, ltb-true, ltb-false, leb-true, leb-false, lt-ltb, le-ltb}
+use Rattle.std.proofs.Common.{true≢false, sym, ◌∙◌, eq-or-lt_of_le, lt_of_lt_of_le, le_of_lt, le_refl, pow-suc, one-mul, mul_assoc, add-one, pow_pos}
+use Rattle.std.proofs.Common.{pow-add, shr-shr, shl_exact, eq-eqb, ne_eqb, ltb-true, ltb-false, leb-true, leb-false, lt-ltb, le-ltb}
 use Rattle.std.proofs.Math.Path.{refl, ap}
 use Rattle.std.proofs.Math.Logic.{⊎_elim}
 use Prim.Native.Nat.{ℕ, zero, suc, ◌+◌, ◌-◌, ◌*◌, ◌/◌, ◌%◌, ◌^◌, min, max, ◌≤◌, ◌<◌}

@@ -1,6 +1,7 @@
 -- What `find_in` answers by a book's index is that lookup of the definition: of a book that reads, the walk's k-th start is where lookup k begins.
 use Rattle.std.specs.Prelude.{◌≡◌, refl, Bool, true, false, cond, List, [], ◌∷◌, ℕ, zero, suc, ◌+◌, ◌-◌, ◌≤◌, ◌<◌, leb, ltb, length, get_or, drop}
-use Rattle.std.proofs.Common.{sym, ap, ◌∙◌, ⊎_elim, eq-or-lt_of_le, arith, lt-ltb, leb-true, ltb-true, ltb-false, length-drop, length-set, drop_of_length-le, drop-cons, get_or-set_same, get_or-set_other}
+use Rattle.std.proofs.Common.{sym, ap, ◌∙◌, ⊎_elim, eq-or-lt_of_le, arith, lt-ltb, leb-true, ltb-true, ltb-false, length-drop, length-set}
+use Rattle.std.proofs.Common.{drop_of_length-le, drop-cons, get_or-set_same, get_or-set_other}
 use Rattle.std.proofs.lemmas.List.{length-replicate}
 use Rattle.book.specs.declared.Entry.{Entry}
 use Rattle.book.specs.Book.{most_words, most_lookups, Lookup, Kind1, Is, None, Reading}

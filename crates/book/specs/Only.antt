@@ -1,5 +1,6 @@
 -- A book reads only where it is the words of lookups within the limits, and then it says those: what is read, written again, is the book.
-use Rattle.std.specs.Prelude.{◌≡◌, refl, Bool, true, false, cond, List, [], ◌∷◌, ◌++◌, ◌↔◌, ℕ, zero, suc, ◌+◌, ◌-◌, ◌*◌, ◌/◌, ◌%◌, ◌≤◌, ◌<◌, eqb, leb, length, get_or, take, drop}
+use Rattle.std.specs.Prelude.{◌≡◌, refl, Bool, true, false, cond, List, [], ◌∷◌, ◌++◌, ◌↔◌, ℕ, zero, suc, ◌+◌, ◌-◌, ◌*◌, ◌/◌, ◌%◌, ◌≤◌, ◌<◌, eqb, leb}
+use Rattle.std.specs.Prelude.{length, get_or, take, drop}
 use Rattle.std.proofs.Common.{sym, ap, subst, ◌∙◌, arith, leb-true, eqb-true, le-leb, take-append-drop, length-take-le, get_or-append-add}
 use Rattle.std.proofs.lemmas.Bool.{lt-leb}
 use Rattle.book.specs.Book.{most_lookups, most_ids, most_input, most_side, most_records, records_of, Chain, Lookup, Kind1, Kind2, Kind3, Found}

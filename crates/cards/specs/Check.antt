@@ -37,12 +37,13 @@ wanted c = c.wanted
 pub all_cards : map given cards ≡ map wanted cards
 unfolding every some ranged masks_of bits_below words_of blank in_set input_matcher context_matcher matcher_of skip_yes ignorable skip_of ruled_out
     match_of verdict walk walk_from takes reached may_join base_before base_skips input_by input_on ligated limit glyphs glyphs_of ill_shaped bad_text
-    input_fit input_of with_id records_of counted body_of first_lookup_of read_lookups read_book lookup_at following with_gain with_loss grown_by shrunk_by repaired
-    deed_by tried_by records_by closed chain_run checked_first checked_all rises_to
+    input_fit input_of with_id records_of counted body_of first_lookup_of read_lookups read_book lookup_at following with_gain with_loss grown_by
+    shrunk_by repaired deed_by tried_by records_by closed chain_run checked_first checked_all rises_to
 all_cards = refl
 
 pub all_examples : map given examples ≡ map wanted examples
-unfolding blank limit in_set input_matcher context_matcher matcher_of skip_yes ignorable skip_of ruled_out match_of verdict walk walk_from walk_back takes
-    reached may_join base_before base_skips input_by input_on ahead_on back_on ligated with_id records_of counted body_of first_lookup_of read_lookups read_book lookup_at
-    pairs_of encode encode_all following with_gain with_loss grown_by shrunk_by repaired chain_match deed_by tried_by records_by closed chain_run rises_to
+unfolding blank limit in_set input_matcher context_matcher matcher_of skip_yes ignorable skip_of ruled_out match_of verdict walk walk_from walk_back
+    takes reached may_join base_before base_skips input_by input_on ahead_on back_on ligated with_id records_of counted body_of first_lookup_of
+    read_lookups read_book lookup_at pairs_of encode encode_all following with_gain with_loss grown_by shrunk_by repaired chain_match deed_by tried_by
+    records_by closed chain_run rises_to
 all_examples = refl

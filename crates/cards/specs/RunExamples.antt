@@ -252,4 +252,5 @@ deep_below = record {
 }
 
 abbrev pub run_examples : List Card
-run_examples = end_raised ∷ loss_held_back ∷ nothing_to_drop ∷ own_glyph_deleted ∷ level_stops ∷ level_goes_on ∷ full_below ∷ short_below ∷ deep_below ∷ []
+run_examples = end_raised ∷ loss_held_back ∷ nothing_to_drop ∷ own_glyph_deleted ∷ level_stops ∷ level_goes_on ∷ full_below ∷ short_below ∷ deep_below
+    ∷ []

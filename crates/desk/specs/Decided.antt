@@ -30,7 +30,8 @@ module _ (done coming : List ℕ) (place : Place) (sets book records : List ℕ)
       (a : RunAnswer)
       × (Said handed allowance depth done' coming' a × (r ≡ ran_of a))
 
-  pub ran_decided : (done' coming' : List ℕ) (r : Ran) (done'' coming'' : List ℕ) (r' : Ran) → Small done' → Small coming' → Small done'' → Small coming''
+  pub ran_decided : (done' coming' : List ℕ) (r : Ran) (done'' coming'' : List ℕ) (r' : Ran) → Small done' → Small coming' → Small done''
+      → Small coming''
       → Ended done' coming' r → Ended done'' coming'' r' → (r ≡ r') × (done' ≡ done'') × (coming' ≡ coming'')
   ran_decided done' coming' r done'' coming'' r' a b a' b' s s' =
       let same =

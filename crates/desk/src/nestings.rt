@@ -54,7 +54,7 @@ pub extern "C" fn cb_run(
     depth: usize,
 ) -> Ran
     ensures { (a : Answer) × (Said (record {
-      done = done.entry.now;
+      done = done.old;
       coming = coming.old;
       place = record { d = d; idx = idx };
       sets = sets.now;
@@ -62,7 +62,7 @@ pub extern "C" fn cb_run(
       records = records.now;
       match = match_from matched;
       given = given_from switches;
-    }) allowance depth done.exit.now coming.new a × (result ≡ ran_of a)) }
+    }) allowance depth done.new coming.new a × (result ≡ ran_of a)) }
 {
     told(run_calls::run(
         done,

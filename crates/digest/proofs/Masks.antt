@@ -1,6 +1,7 @@
 -- Masks that are made one after the other: the first i have their bits.
 -- Assumes nothing.
-use Rattle.std.proofs.Common.{◌≡◌, ℕ, ◌+◌, ◌<◌, ◌≤◌, Bool, true, false, not, ◌&&◌, ◌||◌, List, length, get_or, set, refl, ap, ◌∙◌, ⊎_elim, eq-or-lt_of_le, add-one, arith, get_or-set_other, get_or-set_same}
+use Rattle.std.proofs.Common.{◌≡◌, ℕ, ◌+◌, ◌<◌, ◌≤◌, Bool, true, false, not, ◌&&◌, ◌||◌, List, length, get_or, set, refl, ap, ◌∙◌, ⊎_elim}
+use Rattle.std.proofs.Common.{eq-or-lt_of_le, add-one, arith, get_or-set_other, get_or-set_same}
 use Rattle.bits.specs.Bits.{bit, every}
 use Rattle.digest.specs.Digest.{Bits}
 

@@ -1,7 +1,9 @@
 -- What a digest is for: whatever was added to it is admitted, by whichever call, and two that have no bit in common
 -- in some mask admit no glyph in common. (01, port order 1.)
-use Rattle.std.specs.Prelude.{◌≡◌, ℕ, zero, suc, ◌+◌, ◌-◌, ◌*◌, ◌/◌, ◌%◌, ◌^◌, ◌<◌, ◌≤◌, Bool, true, false, cond, ◌&&◌, ◌||◌, List, [], ◌∷◌, length, ◌==◌, ◌≢◌, nat_le, slice_index, refl}
-use Rattle.std.proofs.Common.{true≢false, sym, ap, ◌∙◌, ⊎_elim, arith, eq-or-lt_of_le, le_refl, mul-le-mul_right, add-mul, one-mul, div-mul-le_self, pow_pos, eq-eqb, le-leb, leb-true, leb-false}
+use Rattle.std.specs.Prelude.{◌≡◌, ℕ, zero, suc, ◌+◌, ◌-◌, ◌*◌, ◌/◌, ◌%◌, ◌^◌, ◌<◌, ◌≤◌, Bool, true, false, cond, ◌&&◌, ◌||◌, List, [], ◌∷◌, length}
+use Rattle.std.specs.Prelude.{◌==◌, ◌≢◌, nat_le, slice_index, refl}
+use Rattle.std.proofs.Common.{true≢false, sym, ap, ◌∙◌, ⊎_elim, arith, eq-or-lt_of_le, le_refl, mul-le-mul_right, add-mul, one-mul, div-mul-le_self}
+use Rattle.std.proofs.Common.{pow_pos, eq-eqb, le-leb, leb-true, leb-false}
 use Rattle.std.proofs.Math.Nat.{lt-div-mul-add}
 use Rattle.std.proofs.Math.Pow.{shr_mono}
 use Rattle.std.proofs.lemmas.Nat.{shr_le, shl-shr}

@@ -11,7 +11,8 @@ pub added_same : (g : ℕ) (f h : Bits) → SameBits f h → SameBits (added g f
 added_same g f h s i k l m = ap (λ (b : Bool). b || k == place i g) (s i k l m)
 
 -- a glyph more, and no glyph: what a turn over the list does, and its end
-pub added_all_on : (gs : List ℕ) (i : ℕ) (f : Bits) → i < length gs → added_all (drop i gs) f ≡ added_all (drop (i + 1) gs) (added (slice_index gs i) f)
+pub added_all_on : (gs : List ℕ) (i : ℕ) (f : Bits) → i < length gs → added_all (drop i gs) f
+    ≡ added_all (drop (i + 1) gs) (added (slice_index gs i) f)
 unfolding added_all
 added_all_on gs i f h = rw (drop-cons gs i 0 h, add-one)
 

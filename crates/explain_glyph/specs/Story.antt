@@ -61,7 +61,8 @@ turn_at m sets test searched gs idx x p =
 
 -- input matching is the story of the glyphs after the cursor
 pub input_story : (m : Matcher) (sets : List ℕ) (test : Test) (searched gs : List Glyph) (idx : ℕ) (values : List ℕ) → idx < length gs
-    → input_by m sets (value_by test []) searched gs idx values ≡ story_of (turn_at m sets test searched gs idx) (length gs - (idx + 1)) (idx + 1) values
+    → input_by m sets (value_by test []) searched gs idx values ≡ story_of (turn_at m sets test searched gs idx) (length gs - (idx + 1)) (idx + 1)
+    values
 unfolding input_by
 input_story m sets test searched gs idx values h =
     sym (story_takes (judge m sets (value_by test []) (get_or gs idx blank).syllable gs) (joins m sets searched gs idx) (length gs)

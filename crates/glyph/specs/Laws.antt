@@ -1,6 +1,8 @@
 -- A row's glyphs by its words: how many there are, rows in two parts, and one glyph. What writes into rows can be added beside them.
-use Rattle.std.specs.Prelude.{◌≡◌, refl, false, not, List, [], ◌∷◌, ◌++◌, ◌↔◌, ℕ, zero, suc, ◌+◌, ◌*◌, ◌/◌, ◌%◌, ◌≤◌, eqb, ltb, length, get_or, take, drop}
-use Rattle.std.proofs.Common.{sym, ap, ◌∙◌, zero-add, suc-add, add-zero, add-suc, add-one, arith, eqb-true, ltb-false, eq-eqb, le-ltb, length-append, length-drop, take-append-drop, length-take-le, take_at, drop_at, drop-cons, get_or-drop}
+use Rattle.std.specs.Prelude.{◌≡◌, refl, false, not, List, [], ◌∷◌, ◌++◌, ◌↔◌, ℕ, zero, suc, ◌+◌, ◌*◌, ◌/◌, ◌%◌, ◌≤◌, eqb, ltb, length, get_or, take}
+use Rattle.std.specs.Prelude.{drop}
+use Rattle.std.proofs.Common.{sym, ap, ◌∙◌, zero-add, suc-add, add-zero, add-suc, add-one, arith, eqb-true, ltb-false, eq-eqb, le-ltb, length-append}
+use Rattle.std.proofs.Common.{length-drop, take-append-drop, length-take-le, take_at, drop_at, drop-cons, get_or-drop}
 use Rattle.std.proofs.lemmas.Bool.{not-false}
 use Rattle.std.proofs.lemmas.List.{take-append-le, drop-append-le}
 use Rattle.bits.proofs.Laws.{neither_left, neither_right}

@@ -1,6 +1,8 @@
 -- Mark sets two words at a time, what they have, and that a glyph above 65,535 is in none.
-use Rattle.std.specs.Prelude.{ℕ, zero, suc, ◌+◌, ◌*◌, ◌/◌, ◌≤◌, ◌<◌, List, [], ◌∷◌, ◌≡◌, refl, ◌↔◌, ◌⊎◌, Bool, true, false, ◌&&◌, ◌||◌, eqb, length, get_or, drop}
-use Rattle.std.proofs.Common.{sym, ap, ◌∙◌, inl, inr, ⊎_elim, true≢false, arith, add-one, eq-or-lt_of_le, ne_eqb, eq-eqb, eqb-true, drop_of_length-le, drop-cons}
+use Rattle.std.specs.Prelude.{ℕ, zero, suc, ◌+◌, ◌*◌, ◌/◌, ◌≤◌, ◌<◌, List, [], ◌∷◌, ◌≡◌, refl, ◌↔◌, ◌⊎◌, Bool, true, false, ◌&&◌, ◌||◌, eqb, length}
+use Rattle.std.specs.Prelude.{get_or, drop}
+use Rattle.std.proofs.Common.{sym, ap, ◌∙◌, inl, inr, ⊎_elim, true≢false, arith, add-one, eq-or-lt_of_le, ne_eqb, eq-eqb, eqb-true, drop_of_length-le}
+use Rattle.std.proofs.Common.{drop-cons}
 use Rattle.std.proofs.Math.Bool.{and-false, or-true, or-false, or_assoc}
 use Rattle.std.proofs.Math.Numerals.{add-two}
 use Rattle.glyph.specs.Sets.{in_set}

@@ -1,6 +1,7 @@
 -- What a change of words at a glyph's first word does to the glyphs: glyphs copied, one glyph stored, glyphs made blank.
 use Rattle.std.specs.Prelude.{◌≡◌, refl, List, [], ◌∷◌, ◌++◌, ℕ, zero, suc, ◌+◌, ◌*◌, ◌≤◌, ◌<◌, length, get_or, set, take, drop, replicate}
-use Rattle.std.proofs.Common.{sym, ap, ◌∙◌, add-suc, add-one, arith, length-append, length-drop, drop_of_length-le, length-take-le, take_all, get_or-drop}
+use Rattle.std.proofs.Common.{sym, ap, ◌∙◌, add-suc, add-one, arith, length-append, length-drop, drop_of_length-le, length-take-le, take_all}
+use Rattle.std.proofs.Common.{get_or-drop}
 use Rattle.std.proofs.lemmas.List.{length-replicate, get_or-replicate, replicate-append-replicate, set_split}
 use Rattle.std.proofs.Math.Seq.{append_snoc, paste, paste-suc}
 use Rattle.std.proofs.lemmas.List.Edits.{sets, sets-eq}

@@ -22,7 +22,8 @@ input_success text idx places =
 -- an answer of input matching, for a judge and the ligature rule
 pub record InputPromise {X : Type 0} (text : List Glyph) (idx : ℕ) (values : List X) (v : X → ℕ → Verdict) (rule : ℕ → Bool)
     (answer : InputMatch) : Type 0 where
-  pub accepted : (places : List ℕ) → (input_reply answer ≡ input_success text idx places) ↔ Accepts (ahead (length text)) v rule (idx + 1) values places
+  pub accepted : (places : List ℕ) → (input_reply answer ≡ input_success text idx places) ↔ Accepts (ahead (length text)) v rule (idx + 1) values
+      places
   pub no_others : (places others : List ℕ) → Accepts (ahead (length text)) v rule (idx + 1) values places
       → Accepts (ahead (length text)) v rule (idx + 1) values others → places ≡ others
   pub slots : (places : List ℕ) → Accepts (ahead (length text)) v rule (idx + 1) values places → answer ≡ matched_at text idx places

@@ -51,7 +51,8 @@ pub over_level : (rules : Rules) (book : List Lookup) (depth : ℕ) (rs : List R
     → chain_run rules book depth rs v ≡ v
 unfolding chain_run
 over_level rules book zero rs v e = ap closed (over_stays (acting (mending rules book) (λ k x. x)) zero rs v e) ∙ over_unmoved v e
-over_level rules book (suc d) rs v e = ap closed (over_stays (acting (mending rules book) (lookup_run rules book d)) (suc d) rs v e) ∙ over_unmoved v e
+over_level rules book (suc d) rs v e = ap closed (over_stays (acting (mending rules book) (lookup_run rules book d)) (suc d) rs v e)
+    ∙ over_unmoved v e
 
 -- and of a level above: the record's lookup left the run y, which is over; its positions are repaired, and that is all
 pub over_above : (repair : Repairing) (effects : ℕ → Effect) (depth : ℕ) (r : Record) (rs : List Record) (v : Stage) (y : Run)

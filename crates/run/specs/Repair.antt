@@ -1,6 +1,7 @@
 -- A level of a run, and how its positions are repaired after a record's lookup changed the text's length
 -- (01, "Records over a text": "Positions are then repaired as A does"; A's `apply_lookup`). Positions and end count from the text's first glyph.
-use Rattle.std.specs.Prelude.{Bool, false, cond, List, [], ◌∷◌, ◌++◌, map, ℕ, zero, suc, ◌+◌, ◌-◌, ◌≤◌, ◌<◌, min, leb, ltb, length, get_or, take, drop}
+use Rattle.std.specs.Prelude.{Bool, false, cond, List, [], ◌∷◌, ◌++◌, map, ℕ, zero, suc, ◌+◌, ◌-◌, ◌≤◌, ◌<◌, min, leb, ltb, length, get_or, take}
+use Rattle.std.specs.Prelude.{drop}
 
 -- positions of a level, at most
 abbrev pub most_positions : ℕ

@@ -264,7 +264,8 @@ module _ (mend : ℕ → Repairing) (f f' : ℕ → Run → Run) (d d' : ℕ) (l
 
   step_core : (r : Record) → StageCore (step_by (acting mend f) d r) (step_by (acting mend f') d' r)
   step_core r =
-      by_core left_of end_of refilled_of (is_due r) (λ a v. refl) (λ c. when c (due_by (acting mend f) d r)) (λ c. when c (due_by (acting mend f') d' r))
+      by_core left_of end_of refilled_of (is_due r) (λ a v. refl) (λ c. when c (due_by (acting mend f) d r))
+      (λ c. when c (due_by (acting mend f') d' r))
       (λ c. when_core left_of end_of refilled_of c (due_by (acting mend f) d r) (due_by (acting mend f') d' r) (due_core r))
 
   records_core : (rs : List Record) → LevelCore (records_by (acting mend f) d rs) (records_by (acting mend f') d' rs)

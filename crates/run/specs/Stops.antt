@@ -162,7 +162,8 @@ module _ (E : Ending) (over : is_over E ≡ true) (at_none : Type 0) (halts : Fo
   chain_tells book (suc d) rs =
       closing_tells _ _ (records_tells (acting (mending rules book) (lookup_run rules book d))
       (λ k. MeetsDeed at_none halts (Meets at_none halts rules book d) (lookup_at k book) (deed_at rules book k))
-      (λ k. done_tells (chain_run rules book d) (Meets at_none halts rules book d) (chain_tells book d) (lookup_at k book) (deed_at rules book k) refl)
+      (λ k. done_tells (chain_run rules book d) (Meets at_none halts rules book d) (chain_tells book d) (lookup_at k book) (deed_at rules book k)
+      refl)
       (suc d) rs)
 
 -- ---- Deep, and each reason

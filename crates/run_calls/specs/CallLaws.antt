@@ -1,5 +1,6 @@
 -- Laws of the run's refusals, of the match that is handed in, and of what a run leaves.
-use Rattle.std.specs.Prelude.{◌≡◌, refl, Bool, true, false, not, ◌&&◌, ◌||◌, List, [], ◌∷◌, map, ℕ, zero, suc, ◌+◌, ◌-◌, ◌≤◌, ◌<◌, eqb, leb, length, get_or, take}
+use Rattle.std.specs.Prelude.{◌≡◌, refl, Bool, true, false, not, ◌&&◌, ◌||◌, List, [], ◌∷◌, map, ℕ, zero, suc, ◌+◌, ◌-◌, ◌≤◌, ◌<◌, eqb, leb, length}
+use Rattle.std.specs.Prelude.{get_or, take}
 use Rattle.std.proofs.Common.{sym, ap, subst, ◌∙◌, arith, length-take-le}
 use Rattle.std.proofs.Math.Bool.{cond}
 use borrow.Author.Tests.{eq-eqb, leb-true, ltb-true, ltb-false, eqb-true}
@@ -170,7 +171,8 @@ pub whole_first : (f : Stage → Stage) (x : Run) (lv : Slots) (idx d : ℕ) (pl
     → lv ≡ shown (moved_level idx d places end) → end ≡ end' → RunLeaves (f (record { level = level_of lv; run = x })) done coming r
     → RunLeaves (f (opened (moved_level idx d places end').positions (moved_level idx d places end').end x)) done coming r
 whole_first f x lv idx d places end end' done coming r e q w =
-    let l : level_of lv ≡ moved_level idx d places end' = ap level_of e ∙ level_shown (moved_level idx d places end) ∙ ap (moved_level idx d places) q in
+    let l : level_of lv ≡ moved_level idx d places end' = ap level_of e ∙ level_shown (moved_level idx d places end)
+    ∙ ap (moved_level idx d places) q in
     subst (λ (L : Level). RunLeaves (f (record { level = L; run = x })) done coming r) l w
 
 -- ---- the book

@@ -46,7 +46,7 @@ pub fn run(
     depth: usize,
 ) -> RunAnswer
     ensures { Said (record {
-      done = done.entry.now;
+      done = done.old;
       coming = coming.old;
       place = record { d = d; idx = idx };
       sets = sets.now;
@@ -54,7 +54,7 @@ pub fn run(
       records = records.now;
       match = matched;
       given = given;
-    }) allowance depth done.exit.now coming.new result }
+    }) allowance depth done.new coming.new result }
 {
     let place = Place { d, idx };
     match run_refuse::check(done, coming, place, sets, records, allowance, depth) {
@@ -104,7 +104,7 @@ fn apply(
 ) -> RunAnswer
     requires { Indexed book.now starts.now count × Fits done.old coming.old place × (place.idx < limit) × (allowance ≤ most_allowance) }
     ensures { SaidBy (checked_match place.idx matched) (run_says (record {
-      done = done.entry.now;
+      done = done.old;
       coming = coming.old;
       place = place;
       sets = sets.now;
@@ -113,7 +113,7 @@ fn apply(
       match = matched;
       given = given;
     }) allowance depth)
-        done.entry.now coming.old done.exit.now coming.new result }
+        done.old coming.old done.new coming.new result }
 {
     let answer = matched.answer;
     let InputAnswer::Matched { end, total } = answer else {

@@ -60,7 +60,8 @@ module _ {ws starts : List ℕ} {count : ℕ} (x : Indexed ws starts count) wher
       → done_by (chain_run (ruled given sets) (lookups_of ws) depth) ((ruled given sets).deed (meant ws e)) y
       ≡ lookup_run (ruled given sets) (lookups_of ws) depth k y
   entry_run given sets depth k e is y =
-      ap (λ (f : Found). done_by (chain_run (ruled given sets) (lookups_of ws) depth) ((ruled given sets).deed f) y) (ap (meant ws) is ∙ entry_meant k)
+      ap (λ (f : Found). done_by (chain_run (ruled given sets) (lookups_of ws) depth) ((ruled given sets).deed f) y)
+      (ap (meant ws) is ∙ entry_meant k)
 
 -- ---- a lookup, by its entry
 

@@ -144,7 +144,8 @@ module _ (given : Given) (sets ws : List ℕ) where
   nested_is zero k x h = let z : ⊥ = omega arith in absurd z
   nested_is (suc d) k x h = let e : suc d - 1 ≡ d = omega arith in rw e
 
-  pub chain_is : (d : ℕ) (rs : List Record) (v : Stage) → chain_run (ruled given sets) (lookups_of ws) d rs v ≡ closed (records_by (nested_at d) d rs v)
+  pub chain_is : (d : ℕ) (rs : List Record) (v : Stage) → chain_run (ruled given sets) (lookups_of ws) d rs v
+      ≡ closed (records_by (nested_at d) d rs v)
   unfolding chain_run
   chain_is zero rs v = refl
   chain_is (suc d) rs v = refl
@@ -214,7 +215,8 @@ module _ (given : Given) (sets ws : List ℕ) where
         ∙ sym (step_is (nested_at depth) depth r v₀ ∙ ap (λ (b : Bool). when b (try_it (nested_at depth) r) (readied depth r v₀).stage) q)
 
   -- the records that are left, after a turn and at the end
-  pub records_turn : (depth : ℕ) (recs : List ℕ) (i : ℕ) (v w : Stage) → i + 1 < length recs → w ≡ step_by (nested_at depth) depth (record_at recs i) v
+  pub records_turn : (depth : ℕ) (recs : List ℕ) (i : ℕ) (v w : Stage) → i + 1 < length recs → w
+      ≡ step_by (nested_at depth) depth (record_at recs i) v
       → records_by (nested_at depth) depth (records_of (drop (i + 2) recs)) w ≡ records_by (nested_at depth) depth (records_of (drop i recs)) v
   unfolding records_by
   records_turn depth recs i v w lt e =

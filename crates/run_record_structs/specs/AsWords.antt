@@ -15,7 +15,8 @@ use Rattle.run_record_structs.specs.Laws.{SaidOf}
 
 module _ (done coming : List ℕ) (place : Place) (sets book : List ℕ) (m : InputMatch) (given : Given) (allowance depth : ℕ) where
   pub as_the_words : (rs : List Record) (words : List ℕ) → words ≡ record_words rs
-      → (done' coming' : List ℕ) (r : RunAnswer) (done'' coming'' : List ℕ) (r' : RunAnswer) → Small done' → Small coming' → Small done'' → Small coming''
+      → (done' coming' : List ℕ) (r : RunAnswer) (done'' coming'' : List ℕ) (r' : RunAnswer) → Small done' → Small coming' → Small done''
+      → Small coming''
       → SaidOf done coming place sets book m given allowance depth done' coming' r (record_words rs)
       → SaidOf done coming place sets book m given allowance depth done'' coming'' r' words
       → SameRun done' coming' r done'' coming'' r'

@@ -46,8 +46,10 @@ bad_words rs = rw (eq-eqb (length (record_words rs) % 2) 0 even, by_test (ltb mo
     even = omega (arith, words-length rs)
 
     by_test : (b : Bool) → ltb most_records (length rs) ≡ b → ltb (2 * most_records) (length (record_words rs)) ≡ ltb most_records (length rs)
-    by_test true e = lt-ltb (2 * most_records) (length (record_words rs)) (omega (arith, words-length rs, ltb-true most_records (length rs) e)) ∙ sym e
-    by_test false e = le-ltb (2 * most_records) (length (record_words rs)) (omega (arith, words-length rs, ltb-false most_records (length rs) e)) ∙ sym e
+    by_test true e = lt-ltb (2 * most_records) (length (record_words rs)) (omega (arith, words-length rs, ltb-true most_records (length rs) e))
+        ∙ sym e
+    by_test false e = le-ltb (2 * most_records) (length (record_words rs)) (omega (arith, words-length rs, ltb-false most_records (length rs) e))
+        ∙ sym e
 
 -- one more record is two more words
 words_last : (rs : List Record) (r : Record) → record_words (rs ++ r ∷ []) ≡ (record_words rs ++ r.sequence ∷ []) ++ r.lookup ∷ []
@@ -140,7 +142,8 @@ module _ (done coming : List ℕ) (place : Place) (sets book : List ℕ) (m : In
   unfolding pairs_kept
   said_kept rs = by_test (leb most_pairs (length rs)) refl
     where
-      by_test : (b : Bool) → leb most_pairs (length rs) ≡ b → SaidOf (record_words (take (cond b most_pairs (length rs)) rs)) → SaidOf (record_words rs)
+      by_test : (b : Bool) → leb most_pairs (length rs) ≡ b → SaidOf (record_words (take (cond b most_pairs (length rs)) rs))
+          → SaidOf (record_words rs)
       by_test true e said =
           let h : most_pairs ≤ length rs = leb-true most_pairs (length rs) e in
           refused_same _ _ _ _

@@ -35,7 +35,7 @@ pub fn run(
     depth: usize,
 ) -> RunAnswer
     ensures { Said (record {
-      done = done.entry.now;
+      done = done.old;
       coming = coming.old;
       place = record { d = d; idx = idx };
       sets = sets.now;
@@ -43,7 +43,7 @@ pub fn run(
       records = record_words records.now;
       match = matched;
       given = given;
-    }) allowance depth done.exit.now coming.new result }
+    }) allowance depth done.new coming.new result }
 {
     let pairs = pairs_of(records);
     run_pairs(
@@ -74,7 +74,7 @@ fn run_pairs(
 ) -> RunAnswer
     requires { (pairs.n ≤ most_pairs) × (length pairs.words ≡ 2 * most_pairs) }
     ensures { Said (record {
-      done = done.entry.now;
+      done = done.old;
       coming = coming.old;
       place = record { d = d; idx = idx };
       sets = sets.now;
@@ -82,7 +82,7 @@ fn run_pairs(
       records = take (2 * pairs.n) pairs.words;
       match = matched;
       given = given;
-    }) allowance depth done.exit.now coming.new result }
+    }) allowance depth done.new coming.new result }
 {
     let words = pairs.words;
     let n = pairs.n;

@@ -32,7 +32,8 @@ module _ (from end count : ℕ) (places : List ℕ) (all : length places ≡ 64)
   pub rise_low : (low i p : ℕ) → i < count → LeftFrom low i → p ≡ get_or places i 0 → p < low → false ≡ rises_to from end (take count places)
   rise_low low i p h e q l = sym (here low i h e ∙ rw (← q, lt-leb low p l))
 
-  pub rise_past : (low i p : ℕ) → i < count → LeftFrom low i → p ≡ get_or places i 0 → low ≤ p → end ≤ p → false ≡ rises_to from end (take count places)
+  pub rise_past : (low i p : ℕ) → i < count → LeftFrom low i → p ≡ get_or places i 0 → low ≤ p → end ≤ p → false
+      ≡ rises_to from end (take count places)
   rise_past low i p h e q l m = sym (here low i h e ∙ rw (← q, le-leb low p l, le-ltb p end m))
 
   pub rise_on : (low i p : ℕ) → i < count → LeftFrom low i → p ≡ get_or places i 0 → low ≤ p → p < end → LeftFrom (p + 1) (i + 1)

@@ -148,7 +148,8 @@ module _ (b : List ℕ) (s : Below 256 b) where
   words_forth (suc n) at h =
       let z : at + 4 * suc n ≡ at + 4 + 4 * n = omega arith in
       (λ j. word_forth at j ++ word_bytes (words_at n (at + 4) b) ++ drop (z j) b)
-      ∙ (ap (λ (r : List ℕ). get_or b at 0 ∷ get_or b (at + 1) 0 ∷ get_or b (at + 2) 0 ∷ get_or b (at + 2 + 1) 0 ∷ r) (words_forth n (at + 4) (omega arith))
+      ∙ (ap (λ (r : List ℕ). get_or b at 0 ∷ get_or b (at + 1) 0 ∷ get_or b (at + 2) 0 ∷ get_or b (at + 2 + 1) 0 ∷ r)
+      (words_forth n (at + 4) (omega arith))
       ∙ sym (drop_four at (omega arith)))
 
   words_small : (n at : ℕ) → Below 4294967296 (words_at n at b)

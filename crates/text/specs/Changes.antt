@@ -1,7 +1,8 @@
 -- What a move and a replacement do to a text: a move changes no glyph; a replacement leaves the glyphs before the cursor, and those after it follow
 -- what was written.
 use Rattle.std.specs.Prelude.{◌≡◌, refl, false, ◌||◌, List, ◌++◌, ◌↔◌, ℕ, ◌+◌, ◌-◌, ◌*◌, ◌≤◌, ◌<◌, eqb, ltb, length, get_or, take, drop}
-use Rattle.std.proofs.Common.{sym, ap, ◌∙◌, append_assoc, arith, eqb-true, ltb-false, leb-false, eq-eqb, le-ltb, length-append, length-drop, length-take-le, take_at, drop_at, get_or-take}
+use Rattle.std.proofs.Common.{sym, ap, ◌∙◌, append_assoc, arith, eqb-true, ltb-false, leb-false, eq-eqb, le-ltb, length-append, length-drop}
+use Rattle.std.proofs.Common.{length-take-le, take_at, drop_at, get_or-take}
 use Rattle.std.proofs.lemmas.Bool.{not-false, lt-leb}
 use Rattle.std.proofs.lemmas.List.{length-map}
 use Rattle.bits.proofs.Laws.{neither_left, neither_right}
@@ -20,7 +21,8 @@ pub moved_twice : (p q : ℕ) (t : Text) → moved_to q (moved_to p t) ≡ moved
 moved_twice p q t = refl
 
 -- rows after a move hold the same list
-pub moved_text : {done coming : List ℕ} {s : Place} (p : ℕ) (t : Text) → Holds done coming s (moved_to p t) → (text_of done coming s).glyphs ≡ t.glyphs
+pub moved_text : {done coming : List ℕ} {s : Place} (p : ℕ) (t : Text) → Holds done coming s (moved_to p t) → (text_of done coming s).glyphs
+    ≡ t.glyphs
 moved_text p t h = ap (λ (u : Text). u.glyphs) h.text
 
 module _ (write : ℕ → Glyph → Glyph) (ids : List ℕ) (t : Text) where

@@ -1,6 +1,7 @@
 -- Glyphs that go from one row to the other leave the text as it is.
 use Rattle.std.specs.Prelude.{◌≡◌, refl, List, [], ◌∷◌, ◌++◌, ℕ, ◌+◌, ◌-◌, ◌≤◌, ◌<◌, length, set, get_or, take, drop, replicate}
-use Rattle.std.proofs.Common.{sym, ap, ◌∙◌, append_assoc, append-nil, add-zero, add-one, arith, drop_of_length-le, length-append, length-drop, take-append-drop, length-take-le, take_at, drop_at, drop-drop, take-add, get_or-append-add, get_or-drop, take_all}
+use Rattle.std.proofs.Common.{sym, ap, ◌∙◌, append_assoc, append-nil, add-zero, add-one, arith, drop_of_length-le, length-append, length-drop}
+use Rattle.std.proofs.Common.{take-append-drop, length-take-le, take_at, drop_at, drop-drop, take-add, get_or-append-add, get_or-drop, take_all}
 use Rattle.std.proofs.lemmas.List.{length-map, length-replicate}
 use Rattle.std.proofs.Math.ListN.{get_or-map}
 use Rattle.std.proofs.Math.Seq.{drop-append-add, paste, paste-zero, paste-suc}

@@ -1,6 +1,7 @@
 -- The places taken so far are in their slots, and what all values take is what the values left take after them, from `next` on. Each turn
 -- tests the next place for the value that is due. What is known of the base stays so. Assumes nothing.
-use Rattle.std.proofs.Common.{Bool, List, [], ap, ap₂, arith, cond, drop, false, get_or, length, set, subst, sym, true, ℕ, ◌*◌, ◌+◌, ◌<◌, ◌^◌, ◌∙◌, ◌∷◌, ◌≡◌, ◌≤◌}
+use Rattle.std.proofs.Common.{Bool, List, [], ap, ap₂, arith, cond, drop, false, get_or, length, set, subst, sym, true, ℕ, ◌*◌, ◌+◌, ◌<◌, ◌^◌, ◌∙◌}
+use Rattle.std.proofs.Common.{◌∷◌, ◌≡◌, ◌≤◌}
 use Rattle.glyph.specs.declared.Glyph.{Glyph}
 use Rattle.glyph.specs.Glyph.{limit, glyphs_of, blank}
 use Rattle.glyph.specs.Laws.{length-glyphs_of}

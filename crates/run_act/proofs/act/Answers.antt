@@ -13,16 +13,16 @@ module _ (c : In-Many) where
   ids_inside = rw c.in-Many.is at c.requires.2
 
 pub offset_bounds-book-a : goal.offset_bounds-book-a
-offset_bounds-book-a c = omega (arith, (ids_inside (goal.at.offset_bounds-book-a c).In-Many).ordered, (ids_inside (goal.at.offset_bounds-book-a c).In-Many).within)
+offset_bounds-book-a c = let ids = ids_inside (goal.at.offset_bounds-book-a c).In-Many in omega (arith, ids.ordered, ids.within)
 
 pub slice_bounds-act_many-count : goal.slice_bounds-act_many-count
 slice_bounds-act_many-count c = (ids_inside (goal.at.slice_bounds-act_many-count c).In-Many).ordered
 
 pub slice_bounds-act_many-start : goal.slice_bounds-act_many-start
-slice_bounds-act_many-start c = omega (arith, (ids_inside (goal.at.slice_bounds-act_many-start c).In-Many).ordered, (ids_inside (goal.at.slice_bounds-act_many-start c).In-Many).within)
+slice_bounds-act_many-start c = let ids = ids_inside (goal.at.slice_bounds-act_many-start c).In-Many in omega (arith, ids.ordered, ids.within)
 
 pub slice_bounds-act_many-end : goal.slice_bounds-act_many-end
-slice_bounds-act_many-end c = omega (arith, (ids_inside (goal.at.slice_bounds-act_many-end c).In-Many).ordered, (ids_inside (goal.at.slice_bounds-act_many-end c).In-Many).within)
+slice_bounds-act_many-end c = let ids = ids_inside (goal.at.slice_bounds-act_many-end c).In-Many in omega (arith, ids.ordered, ids.within)
 
 pub act_many-requires : goal.act_many-requires
 act_many-requires c =

@@ -40,20 +40,20 @@ module _ (c : After-match_values-m) where
       let a = c.args in
       input_shown a.done.now a.coming.now a.p c.requires.0 a.q a.sets.now c.requires.1 k.input c.match_values-m.result m_is (sym said ∙ e)
 
-  asked-ahead : (end : ℕ) (b : Bool) → end ≡ match_end c.match_values-m.result.answer →
+  asked_ahead : (end : ℕ) (b : Bool) → end ≡ match_end c.match_values-m.result.answer →
       let a = c.args in
       b ≡ is_taken (ahead_on a.q a.sets.now itself (glyphs_of a.coming.now) end c.read-g.result.syllable k.lookahead)
       → is_taken (ahead_on a.q a.sets.now itself (glyphs_of a.coming.now) (match_end c.match_values-m.result.answer)
       c.read-g.result.syllable k.lookahead) ≡ b
-  asked-ahead end b e said =
+  asked_ahead end b e said =
       let a = c.args in
       ap (λ (n : ℕ). is_taken (ahead_on a.q a.sets.now itself (glyphs_of a.coming.now) n c.read-g.result.syllable k.lookahead)) (sym e) ∙ sym said
 
-  asked-back : (b : Bool) →
+  asked_back : (b : Bool) →
       let a = c.args in
       b ≡ is_taken (back_on a.q a.sets.now itself (glyphs_of c.first-before.result.now) c.read-g.result.syllable k.backtrack)
       → is_taken (back_on a.q a.sets.now itself (take a.p.d (glyphs_of a.done.now)) c.read-g.result.syllable k.backtrack) ≡ b
-  asked-back b said =
+  asked_back b said =
       let a = c.args in
       ap (λ (D : List Glyph). is_taken (back_on a.q a.sets.now itself D c.read-g.result.syllable k.backtrack)) (sym c.first-before.ensures) ∙ sym said
 
@@ -105,7 +105,7 @@ returns-then-not-is_ahead c =
     c.no_aim-then-not-is_ahead.ensures
     ∙ aim_behind a.done.now a.coming.now a.p c.requires.0 a.q a.sets.now (k r) a.records g.result g.ensures said
     c.match_values-m.result (m_is r) (shows r _ c.is_matched.ensures c.if-not-is_matched.false)
-    (asked-ahead r _ _ c.end_of-end.ensures c.is_ahead.ensures ∙ c.if-not-is_ahead.true)
+    (asked_ahead r _ _ c.end_of-end.ensures c.is_ahead.ensures ∙ c.if-not-is_ahead.true)
 
 pub returns-then-not-is_behind : goal.returns-then-not-is_behind
 returns-then-not-is_behind c =
@@ -116,8 +116,8 @@ returns-then-not-is_behind c =
     c.no_aim-then-not-is_behind.ensures
     ∙ aim_ahead a.done.now a.coming.now a.p c.requires.0 a.q a.sets.now (k r) a.records g.result g.ensures said
     c.match_values-m.result (m_is r) (shows r _ c.is_matched.ensures c.if-not-is_matched.false)
-    (asked-ahead r _ _ c.end_of-end.ensures c.is_ahead.ensures ∙ c.if-not-is_ahead.false)
-    (asked-back r _ c.is_behind.ensures ∙ c.if-not-is_behind.true)
+    (asked_ahead r _ _ c.end_of-end.ensures c.is_ahead.ensures ∙ c.if-not-is_ahead.false)
+    (asked_back r _ c.is_behind.ensures ∙ c.if-not-is_behind.true)
 
 pub open-level-requires : goal.open-level-requires
 open-level-requires c =
@@ -141,6 +141,6 @@ returns c =
     c.end_of-end.ensures in
     aim_hit a.done.now a.coming.now a.p c.requires.0 a.q a.sets.now (k r) a.records g.result g.ensures said
     m (m_is r) (shows r _ c.is_matched.ensures c.if-not-is_matched.false)
-    (asked-ahead r _ _ c.end_of-end.ensures c.is_ahead.ensures ∙ c.if-not-is_ahead.false)
-    (asked-back r _ c.is_behind.ensures ∙ c.if-not-is_behind.false)
+    (asked_ahead r _ _ c.end_of-end.ensures c.is_ahead.ensures ∙ c.if-not-is_ahead.false)
+    (asked_back r _ c.is_behind.ensures ∙ c.if-not-is_behind.false)
     c.open-level.result opened

@@ -30,7 +30,11 @@ module _ (c : Else-not-is_due) where
       (sym c.is_due.ensures ∙ c.if-not-is_due.false)
 
 pub offset_bounds-slots-seq : goal.offset_bounds-slots-seq
-offset_bounds-slots-seq c = omega (arith, (due (goal.at.offset_bounds-slots-seq c).Else-not-is_due).0, few_slots c.args.lv c.requires.neat c.requires.sound)
+offset_bounds-slots-seq c = omega (
+  arith,
+  (due (goal.at.offset_bounds-slots-seq c).Else-not-is_due).0,
+  few_slots c.args.lv c.requires.neat c.requires.sound,
+)
 
 pub bounds-slots-seq : goal.bounds-slots-seq
 bounds-slots-seq c = omega (arith, (due (goal.at.bounds-slots-seq c).Else-not-is_due).0, few_slots c.args.lv c.requires.neat c.requires.sound)

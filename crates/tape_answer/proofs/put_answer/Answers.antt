@@ -14,7 +14,10 @@ returns-in-Matched c =
 pub returns-in-Refused : goal.returns-in-Refused
 returns-in-Refused c =
     let a = c.args in
-    let p = c.put_number.ensures in record { puts = rw (reply_refused a.m _ c.in-Refused.is, ← c.refusal_number.ensures) p; upper_bound = number_fits _ _ _ p.ends }
+    let p = c.put_number.ensures in record {
+      puts = rw (reply_refused a.m _ c.in-Refused.is, ← c.refusal_number.ensures) p;
+      upper_bound = number_fits _ _ _ p.ends;
+    }
 
 pub returns-in-Lost : goal.returns-in-Lost
 returns-in-Lost c =

@@ -8,16 +8,16 @@ use Rattle.tape_frame.specs.Put.{put}
 use Rattle.tape_decode.proofs.read_whole.Goals as goal
 use Rattle.tape_decode.proofs.read_whole.Goals.{After-head_of-head}
 
-whole-told : (c : After-head_of-head) → is_whole c.args.b.now ≡ true
-whole-told c = sym c.is_whole.ensures ∙ c.if-not-is_whole.false
+whole_told : (c : After-head_of-head) → is_whole c.args.b.now ≡ true
+whole_told c = sym c.is_whole.ensures ∙ c.if-not-is_whole.false
 
 known : (c : After-head_of-head) → Bounded c.head_of-head.result
 known c =
     let a = c.args in
-    rw c.head_of-head.ensures (head_bounded a.table a.b.now (whole-told c))
+    rw c.head_of-head.ensures (head_bounded a.table a.b.now (whole_told c))
 
-few-done : (c : After-head_of-head) → done_count c.args.b.now ≤ most_glyphs
-few-done c =
+few_done : (c : After-head_of-head) → done_count c.args.b.now ≤ most_glyphs
+few_done c =
     let a = c.args in
     omega (arith, (known c).done, count_done a.table a.b.now c.head_of-head.result c.head_of-head.ensures)
 
@@ -45,7 +45,7 @@ pub fill-requires-3 : goal.fill-requires-3
 fill-requires-3 c =
     let k = known (goal.at.fill-requires-3 c).After-head_of-head in
     let at = c.coming_at.ensures in
-    omega (arith, few-done (goal.at.fill-requires-3 c).After-head_of-head)
+    omega (arith, few_done (goal.at.fill-requires-3 c).After-head_of-head)
 
 pub returns : goal.returns
 returns c =
@@ -55,7 +55,7 @@ returns c =
     let e = c.head_of-head.ensures in
     let from = c.done_at.ensures.0 in
     let on = c.coming_at.ensures.0 in
-    rw (whole-told (goal.at.returns c).After-head_of-head)
+    rw (whole_told (goal.at.returns c).After-head_of-head)
     record {
       answers = ap Decoded.Frame e;
       values = c.fill.ensures ∙ ap (put a.values.now 0) (rows_values a.table b h e);

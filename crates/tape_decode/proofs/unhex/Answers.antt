@@ -13,13 +13,19 @@ pub returns-then-high-ge-NO_DIGIT : goal.returns-then-high-ge-NO_DIGIT
 returns-then-high-ge-NO_DIGIT c =
     let line = c.args.line.now in
     let l = c.loop-i in
-    record { value = sym (sym l.invariant.2 ∙ spells_high line l.i (omega arith) (omega (arith, c.digit-high.ensures))); out_after = λ e. absurd (false≢true e) }
+    record {
+      value = sym (sym l.invariant.2 ∙ spells_high line l.i (omega arith) (omega (arith, c.digit-high.ensures)));
+      out_after = λ e. absurd (false≢true e);
+    }
 
 pub returns-then-low-ge-NO_DIGIT : goal.returns-then-low-ge-NO_DIGIT
 returns-then-low-ge-NO_DIGIT c =
     let line = c.args.line.now in
     let l = c.loop-i in
-    record { value = sym (sym l.invariant.2 ∙ spells_low line l.i (omega arith) (omega (arith, c.digit-low.ensures))); out_after = λ e. absurd (false≢true e) }
+    record {
+      value = sym (sym l.invariant.2 ∙ spells_low line l.i (omega arith) (omega (arith, c.digit-low.ensures)));
+      out_after = λ e. absurd (false≢true e);
+    }
 
 pub loop-i-preserved : goal.loop-i-preserved
 loop-i-preserved c =

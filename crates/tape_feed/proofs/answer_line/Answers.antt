@@ -18,7 +18,10 @@ pub returns-in-NoFrame : goal.returns-in-NoFrame
 unfolding answer_line
 returns-in-NoFrame c =
     let line = c.args.line.now in
-    let p = c.put_number.ensures in record { puts = rw (none_told (frame_of line) (sym c.in-NoFrame.is ∙ c.decode.ensures.answers)) p; upper_bound = number_fits _ _ _ p.ends }
+    let p = c.put_number.ensures in record {
+      puts = rw (none_told (frame_of line) (sym c.in-NoFrame.is ∙ c.decode.ensures.answers)) p;
+      upper_bound = number_fits _ _ _ p.ends;
+    }
 
 pub returns-in-Frame : goal.returns-in-Frame
 returns-in-Frame c =

@@ -86,7 +86,8 @@ pub returns-then-p-eq0 : goal.returns-then-p-eq0
 returns-then-p-eq0 c =
     let at_asked = (goal.at.returns-then-p-eq0 c).After-is_skip_yes in
     let skipped : judge at_asked (tested at_asked) ≡ Skip = elim c.if-not-is_skip_yes.branch [
-      | then-not-is_skip_yes+in-Skip w ↦ told at_asked _ _ _ w.if-not-is_skip_yes.true w.read-then-not-is_skip_yes.ensures w.on_rest.ensures w.in-Skip.is
+      | then-not-is_skip_yes+in-Skip w ↦ told at_asked _ _ _ w.if-not-is_skip_yes.true w.read-then-not-is_skip_yes.ensures w.on_rest.ensures
+          w.in-Skip.is
       | else-not-is_skip_yes w ↦ skips at_asked w.if-not-is_skip_yes.false
     ] in
     sym (turn at_asked Skip skipped ∙ back_end (judge at_asked) (tested at_asked) c.if-p-eq0.true)
@@ -95,7 +96,8 @@ pub loop-m-preserved : goal.loop-m-preserved
 loop-m-preserved c =
     let at_asked = (goal.at.loop-m-preserved c).After-is_skip_yes in
     let skipped : judge at_asked (tested at_asked) ≡ Skip = elim c.if-not-is_skip_yes.branch [
-      | then-not-is_skip_yes+in-Skip w ↦ told at_asked _ _ _ w.if-not-is_skip_yes.true w.read-then-not-is_skip_yes.ensures w.on_rest.ensures w.in-Skip.is
+      | then-not-is_skip_yes+in-Skip w ↦ told at_asked _ _ _ w.if-not-is_skip_yes.true w.read-then-not-is_skip_yes.ensures w.on_rest.ensures
+          w.in-Skip.is
       | else-not-is_skip_yes w ↦ skips at_asked w.if-not-is_skip_yes.false
     ] in
     let s : tested at_asked ≡ tested at_asked - 1 + 1 = omega arith in

@@ -35,11 +35,13 @@ module _ (c : After-step-walked) where
       ∙ ap (λ (r : Walked). onward r rest) (sym c.step-walked.ensures)
 
 pub returns-in_default : goal.returns-in_default
-returns-in_default c = sym (turn (goal.at.returns-in_default c).After-step-walked ∙ stands c.step-walked.result (rest (goal.at.returns-in_default c).After-step-walked) c.in_default.not-Found)
+returns-in_default c = sym (turn (goal.at.returns-in_default c).After-step-walked
+    ∙ stands c.step-walked.result (rest (goal.at.returns-in_default c).After-step-walked) c.in_default.not-Found)
 
 pub loop-left-preserved : goal.loop-left-preserved
 loop-left-preserved c =
-    turn (goal.at.loop-left-preserved c).After-step-walked ∙ ap (λ (r : Walked). onward r (rest (goal.at.loop-left-preserved c).After-step-walked)) c.in-Found.is
+    turn (goal.at.loop-left-preserved c).After-step-walked ∙ ap (λ (r : Walked). onward r (rest (goal.at.loop-left-preserved c).After-step-walked))
+    c.in-Found.is
 
 pub returns : goal.returns
 returns c = let a = c.args in

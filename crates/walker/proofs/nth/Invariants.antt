@@ -4,7 +4,8 @@ use Rattle.walker.specs.Walker.{nth_of}
 use Rattle.walker.proofs.nth.Given as goal
 
 abbrev pub invariant-loop-left : goal.invariant-loop-left
-invariant-loop-left l = nth_of l.row l.len l.place l.n l.m (value_of l.sign []) l.syllable l.sets ≡ nth_of l.row l.len l.at l.left l.m (value_of l.sign []) l.syllable l.sets
+invariant-loop-left l = nth_of l.row l.len l.place l.n l.m (value_of l.sign []) l.syllable l.sets
+    ≡ nth_of l.row l.len l.at l.left l.m (value_of l.sign []) l.syllable l.sets
 
 abbrev pub decreases-loop-left : goal.decreases-loop-left
 decreases-loop-left l = l.left

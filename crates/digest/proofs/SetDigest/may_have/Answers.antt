@@ -14,9 +14,9 @@ asked : (masks : List ℕ) (g i n : ℕ) (b : Bool) → b ≡ bit (n % 64) (get_
 asked masks g i n b e f = e ∙ ap (λ (m : ℕ). bit (m % 64) (get_or masks i 0)) f
 
 -- where the first mask has it, the other two decide
-others-decide : (p : ℕ → Bool) (b c : Bool) → p 0 ≡ true → b ≡ p 1 → c ≡ p 2 → (b && c) ≡ every 3 p
+others_decide : (p : ℕ → Bool) (b c : Bool) → p 0 ≡ true → b ≡ p 1 → c ≡ p 2 → (b && c) ≡ every 3 p
 unfolding every
-others-decide p b c e f g = rw (e, f, g)
+others_decide p b c e f g = rw (e, f, g)
 
 pub returns-then-not-has : goal.returns-then-not-has
 returns-then-not-has c = let a = c.args in
@@ -27,7 +27,7 @@ pub returns : goal.returns
 returns c =
     let a = c.args in
     let ask = asked a.self.masks a.g in
-    others-decide (is_set a.self.masks a.g) _ _
+    others_decide (is_set a.self.masks a.g) _ _
     (sym (ask 0 _ _ c.has.ensures c.shifted.ensures) ∙ c.if-not-has.false)
     (ask 1 _ _ c.has-2.ensures c.shifted-2.ensures)
     (ask 2 _ _ c.has-3.ensures c.shifted-3.ensures)
