@@ -10,7 +10,11 @@ pub const WORDS: usize = 4;
 
 pub const LIMIT: usize = 2048;
 
-#[derive(Clone, Copy)]
+// Refusal 1 of a call on rows: a row, a place or mark sets that no call takes.
+#[derive(Clone, Copy, Debug, PartialEq, Eq)]
+pub struct IllShaped;
+
+#[derive(Clone, Copy, Debug, PartialEq, Eq)]
 pub struct Glyph {
     pub id: u32,
     pub mask: u32,
