@@ -2,18 +2,18 @@
 #![tactic(auto)]
 
 ghost use Rattle.std.specs.Prelude.{◌≡◌};
-ghost use Rattle.verdict.specs.Matcher.{is_gpos, matcher_of};
+ghost use Rattle.verdict.specs.Matcher.{matcher_of};
 ghost use Rattle.verdict.specs.Numbers.{table_of, test_of};
 
 // The layout table that a lookup is of.
-#[derive(Clone, Copy)]
+#[derive(Clone, Copy, Debug, PartialEq, Eq)]
 pub enum Table {
     Gsub,
     Gpos,
 }
 
 // The table, and what is asked for: auto-ZWNJ, auto-ZWJ, syllables.
-#[derive(Clone, Copy)]
+#[derive(Clone, Copy, Debug, PartialEq, Eq)]
 pub struct Settings {
     pub table: Table,
     pub zwnj: bool,
@@ -23,7 +23,7 @@ pub struct Settings {
 
 // What a lookup asks of the glyphs that it walks over: its props and mask, which of ZWNJ, ZWJ and hidden glyphs are
 // ignored, and whether syllables are tested.
-#[derive(Clone, Copy)]
+#[derive(Clone, Copy, Debug, PartialEq, Eq)]
 pub struct Matcher {
     pub props: u32,
     pub mask: u32,
@@ -33,30 +33,30 @@ pub struct Matcher {
     pub syllabic: bool,
 }
 
-#[derive(Clone, Copy)]
+#[derive(Clone, Copy, Debug, PartialEq, Eq)]
 pub enum MaySkip {
-    No,
-    Yes,
-    Maybe,
+    No = 0,
+    Yes = 1,
+    Maybe = 2,
 }
 
-#[derive(Clone, Copy)]
+#[derive(Clone, Copy, Debug, PartialEq, Eq)]
 pub enum MayMatch {
-    No,
-    Yes,
-    Maybe,
+    No = 0,
+    Yes = 1,
+    Maybe = 2,
 }
 
-#[derive(Clone, Copy)]
+#[derive(Clone, Copy, Debug, PartialEq, Eq)]
 pub enum Verdict {
-    Match,
-    NotMatch,
-    Skip,
+    Match = 0,
+    NotMatch = 1,
+    Skip = 2,
 }
 
 // How a value is held against a glyph. Functions that take a test also take `lists`, words lent beside the values, for a test that needs more than
 // the value; none of these does.
-#[derive(Clone, Copy)]
+#[derive(Clone, Copy, Debug, PartialEq, Eq)]
 pub enum Test {
     Equal,
     Any,
@@ -64,27 +64,18 @@ pub enum Test {
 }
 
 // What a glyph is tested for.
-#[derive(Clone, Copy)]
+#[derive(Clone, Copy, Debug, PartialEq, Eq)]
 pub struct Sign {
     pub test: Test,
     pub value: u32,
 }
 
-fn is_gpos(table: Table) -> bool
-    ensures { result ≡ is_gpos table }
-{
-    match table {
-        Table::Gsub => false,
-        Table::Gpos => true,
-    }
-}
-
 // The context matcher or the input matcher of a lookup.
+#[tactic(auto, unfolding(crate::specs::Matcher::matcher_of, crate::specs::Matcher::context_matcher, crate::specs::Matcher::input_matcher))]
 pub fn matcher_of(settings: Settings, context: bool, mask: u32, props: u32) -> Matcher
     ensures { result ≡ matcher_of settings context mask props }
 {
-    let table = settings.table;
-    let gpos = is_gpos(table);
+    let gpos = settings.table == Table::Gpos;
     if context {
         return Matcher {
             props: props,
@@ -107,20 +98,22 @@ pub fn matcher_of(settings: Settings, context: bool, mask: u32, props: u32) -> M
 
 // ---- a table and a test by their numbers, as C and the stored lists have them
 
-pub fn table_of(gpos: bool) -> Table
-    ensures { result ≡ table_of gpos }
-{
-    if gpos { Table::Gpos } else { Table::Gsub }
+impl From<bool> for Table {
+    ghost from_gives = { λ gpos table. table ≡ table_of gpos };
+
+    fn from(gpos: bool) -> Table {
+        if gpos { Table::Gpos } else { Table::Gsub }
+    }
 }
 
-pub fn test_of(number: u8) -> Test
-    ensures { result ≡ test_of number }
-{
-    if number == 0 {
-        Test::Equal
-    } else if number == 1 {
-        Test::Any
-    } else {
-        Test::Nothing
+impl From<u8> for Test {
+    ghost from_gives = { λ number test. test ≡ test_of number };
+
+    fn from(number: u8) -> Test {
+        match number {
+            0 => Test::Equal,
+            1 => Test::Any,
+            _ => Test::Nothing,
+        }
     }
 }
