@@ -1,6 +1,6 @@
 -- The matchers' loops a value at a time: what has been taken, and that the whole is what is left from here.
 use Prim.Native.Nat.{ℕ, suc, ◌+◌, ◌-◌, ◌*◌, ◌≤◌, ◌<◌}
-use Rattle.std.specs.Prelude.{◌≡◌, Bool, true, cond, length, get_or, drop, replicate, set}
+use Rattle.std.specs.Prelude.{◌≡◌, Result, Ok, Err, Bool, true, cond, length, get_or, drop, replicate, set}
 use Rattle.std.proofs.Math.Path.{refl, sym, ap}
 use Rattle.std.proofs.Common.{◌∙◌, length-append, drop_of_length-le, drop-cons}
 use mathlib.Core.List.{List, [], ◌∷◌, ◌++◌, append_assoc, append-nil}
@@ -15,8 +15,7 @@ use Rattle.walk.specs.declared.Walked.{Walked}
 use Rattle.walk.specs.declared.Walked.TheVariants.{Found, Stopped, RanOut, Refused}
 use Rattle.walk.specs.Walk.{on_verdict, walk_from, on_verdict_back, walk_back}
 use Rattle.walk.specs.Steps.{walk_on, back_on_by, back_end}
-use Rattle.matching.specs.declared.InputAnswer.{InputAnswer}
-use Rattle.matching.specs.declared.ContextMatch.{ContextMatch}
+use Rattle.matching.specs.declared.NoContext.{NoContext}
 use Rattle.matching.specs.Take.{slots, Way, ahead, behind, walk_by, past, Outcome, taken, lost, unlike, having, on_walked, takes, reached}
 use Rattle.matching.specs.Matchers.{anywhere}
 use Rattle.matching.specs.Answers.{slotted, ligated, total_of, input_told, context_told}
@@ -33,15 +32,15 @@ module _ (way : Way) where
 
   module _ (v : ℕ → ℕ → Verdict) where
     -- the answer from p on, with these values left
-    abbrev pub told : ℕ → List ℕ → ContextMatch
+    abbrev pub told : ℕ → List ℕ → Result ℕ NoContext
     told p xs = context_told way p (takes way v anywhere p xs)
 
     -- what a walk's answer makes of it
-    abbrev pub told_by : Walked → List ℕ → ContextMatch
+    abbrev pub told_by : Walked → List ℕ → Result ℕ NoContext
     told_by (Found q) rest = told (past way q) rest
-    told_by (Stopped extent) rest = ContextMatch.Lost extent
-    told_by (RanOut extent) rest = ContextMatch.Lost extent
-    told_by Refused rest = ContextMatch.Lost 0
+    told_by (Stopped extent) rest = Err (NoContext.Lost extent)
+    told_by (RanOut extent) rest = Err (NoContext.Lost extent)
+    told_by Refused rest = Err (NoContext.Lost 0)
 
     by_walk : (p : ℕ) (w : Walked) (rest : List ℕ) → context_told way p (on_walked anywhere w (λ q. takes way v anywhere (past way q) rest))
         ≡ told_by w rest
@@ -57,7 +56,7 @@ module _ (way : Way) where
           rw add-one
           (ap (told p) (drop-cons values i 0 h) ∙ by_walk p (walk_by way (v (get_or values i 0)) p) (drop (suc i) values))
 
-      pub told_end : length values ≤ i → told p (drop i values) ≡ ContextMatch.Matched p
+      pub told_end : length values ≤ i → told p (drop i values) ≡ Ok p
       unfolding takes reached
       told_end h = ap (told p) (drop_of_length-le values h)
 
@@ -76,7 +75,7 @@ module _ (v : ℕ → ℕ → Verdict) (i : ℕ) (values : List ℕ) (h : i < le
   pub back_skip : (place p : ℕ) → place ≡ suc p → due p ≡ Skip → told behind v place (drop i values) ≡ told behind v p (drop i values)
   back_skip place p l e = back_turn place p Skip l e ∙ sym (told_on behind v p i values h)
 
-  pub back_out : (place : ℕ) → place ≡ 0 → told behind v place (drop i values) ≡ ContextMatch.Lost 0
+  pub back_out : (place : ℕ) → place ≡ 0 → told behind v place (drop i values) ≡ Err (NoContext.Lost 0)
   back_out place l =
       told_on behind v place i values h ∙ ap (λ (w : Walked). told_by behind v w (drop (i + 1) values)) (back_end due place l)
 
@@ -202,11 +201,11 @@ module _ (gs : List Glyph) (v : ℕ → ℕ → Verdict) (ok : ℕ → Bool) (id
         }
 
     pub going_done : length values ≤ i
-        → input_told gs idx (from (idx + 1) values) ≡ record { answer = InputAnswer.Matched next total; count = i + 1; positions = positions }
+        → input_told gs idx (from (idx + 1) values) ≡ record { answer = Ok (record { end = next; total = total }); count = i + 1; positions = positions }
     unfolding takes
     going_done h =
         let e : from (idx + 1) values ≡ taken g.qs =
         g.left ∙ ap (λ (l : List ℕ). having g.qs (from next l)) (drop_of_length-le values h) ∙ ap taken (append-nil g.qs) in
         let n : suc (length g.qs) ≡ i + 1 = let s = g.size in omega arith in
         ap (input_told gs idx) e
-        ∙ (λ j. record { answer = InputAnswer.Matched (g.here h j) (sym g.sum j); count = n j; positions = sym g.slotting j })
+        ∙ (λ j. record { answer = Ok (record { end = g.here h j; total = sym g.sum j }); count = n j; positions = sym g.slotting j })

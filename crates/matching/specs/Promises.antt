@@ -1,6 +1,6 @@
 -- Demand 2 of the three calls, past refusals 1, 2, 3 and 6, in the paper's numbers and values (01, "Nailing an answer down"). Here is what an answer
 -- is to be; that the calls' answers are so: Kept of `matching_calls`.
-use Rattle.std.specs.Prelude.{ℕ, ◌+◌, ◌≡◌, List, [], ◌∷◌, Bool, ◌↔◌, length, get_or}
+use Rattle.std.specs.Prelude.{ℕ, ◌+◌, ◌≡◌, Result, List, [], ◌∷◌, Bool, ◌↔◌, length, get_or}
 use Rattle.glyph.specs.declared.Glyph.{Glyph}
 use Rattle.glyph.specs.Glyph.{blank}
 use Rattle.glyph.specs.Reply.{Reply, replies}
@@ -8,7 +8,7 @@ use Rattle.verdict.specs.Verdict.{Asked}
 use Rattle.verdict.specs.declared.Verdict.{Verdict}
 use Rattle.matching.specs.declared.Terms.{Terms}
 use Rattle.matching.specs.declared.InputMatch.{InputMatch}
-use Rattle.matching.specs.declared.ContextMatch.{ContextMatch}
+use Rattle.matching.specs.declared.NoContext.{NoContext}
 use Rattle.matching.specs.Take.{Way, ahead, reached}
 use Rattle.matching.specs.Matchers.{judge, joins, anywhere, input_matcher_of, context_matcher_of, searched_glyphs}
 use Rattle.matching.specs.Answers.{total_of, matched_at, input_reply, context_reply}
@@ -37,7 +37,7 @@ pub record Leads {X : Type 0} (way : Way) (v : X → ℕ → Verdict) (p : ℕ) 
   pub leads : reached way p places ≡ place
 
 -- an answer of lookahead or backtrack matching from p on, which has no rule on places
-pub record ContextPromise {X : Type 0} (way : Way) (p : ℕ) (values : List X) (v : X → ℕ → Verdict) (answer : ContextMatch) : Type 0 where
+pub record ContextPromise {X : Type 0} (way : Way) (p : ℕ) (values : List X) (v : X → ℕ → Verdict) (answer : Result ℕ NoContext) : Type 0 where
   pub accepted : (place : ℕ) → (context_reply answer ≡ replies 0 (place ∷ [])) ↔ Leads way v p values place
   pub no_others : (places others : List ℕ) → Accepts way v anywhere p values places → Accepts way v anywhere p values others → places ≡ others
   pub refused4 : (extent : ℕ) → (context_reply answer ≡ replies 4 (extent ∷ [])) ↔ Loses way v anywhere p values extent

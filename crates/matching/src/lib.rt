@@ -4,6 +4,8 @@
 ghost use Rattle.std.specs.Prelude.{◌≡◌, [], ◌<◌, length};
 ghost use Rattle.glyph.specs.Glyph.{glyphs_of};
 ghost use Rattle.verdict.specs.Verdict.{value_by};
+ghost use Rattle.matching.specs.declared.NoMatch.{NoMatch};
+ghost use Rattle.matching.specs.declared.NoContext.{NoContext};
 ghost use Rattle.matching.specs.Take.{slots};
 ghost use Rattle.matching.specs.Matchers.{input_by, input_on, searched_glyphs};
 ghost use Rattle.matching.specs.Ready.{InputReady};
@@ -24,29 +26,49 @@ pub struct Terms {
     pub props: u32,
 }
 
-// What a call is refused for before anything is matched.
-#[derive(Clone, Copy)]
+// What a call is refused for before anything is matched, by 01's number.
+#[derive(Clone, Copy, Debug, PartialEq, Eq)]
 pub enum Refusal {
-    // Refusal 1.
-    Shape,
-    // Refusal 2.
-    Cursor,
-    // Refusal 3.
-    Values,
-    // Refusal 6.
-    Start,
+    Shape = 1,
+    Cursor = 2,
+    Values = 3,
+    Start = 6,
 }
 
-#[derive(Clone, Copy)]
-pub enum InputAnswer {
-    // The last position and one more, and the total of component counts.
-    Matched { end: usize, total: u16 },
+impl From<Refusal> for u8 {
+    ghost from_gives = { λ why number. number ≡ refusal_number why };
+
+    fn from(why: Refusal) -> u8 {
+        why as u8
+    }
+}
+
+#[derive(Clone, Copy, Debug, PartialEq, Eq)]
+pub struct Success {
+    // The last position and one more.
+    pub end: usize,
+    // The total of component counts.
+    pub total: u16,
+}
+
+#[derive(Clone, Copy, Debug, PartialEq, Eq)]
+pub enum NoMatch {
     Refused(Refusal),
     // A walk stopped or ran out, by its extent: refusal 4.
     Lost(usize),
     // The ligature rule: refusal 5.
     Ligature,
 }
+
+impl From<Refusal> for NoMatch {
+    ghost from_gives = { λ why no. no ≡ NoMatch.Refused why };
+
+    fn from(why: Refusal) -> NoMatch {
+        NoMatch::Refused(why)
+    }
+}
+
+pub type InputAnswer = Result<Success, NoMatch>;
 
 // The answer, and the positions that it counts; the other slots are 0.
 #[derive(Clone, Copy)]
@@ -56,14 +78,23 @@ pub struct InputMatch {
     pub positions: [u16; 64],
 }
 
-#[derive(Clone, Copy)]
-pub enum ContextMatch {
-    // Lookahead: the last place and one more, or the start. Backtrack: the last place, or the backward row's length.
-    Matched(usize),
+#[derive(Clone, Copy, Debug, PartialEq, Eq)]
+pub enum NoContext {
     Refused(Refusal),
     // A walk stopped or ran out, by its extent: refusal 4.
     Lost(usize),
 }
+
+impl From<Refusal> for NoContext {
+    ghost from_gives = { λ why no. no ≡ NoContext.Refused why };
+
+    fn from(why: Refusal) -> NoContext {
+        NoContext::Refused(why)
+    }
+}
+
+// Lookahead: the last place and one more, or the start. Backtrack: the last place, or the backward row's length.
+pub type ContextMatch = Result<usize, NoContext>;
 
 // ---- the matchers over glyphs, every one of which counts
 
@@ -111,12 +142,7 @@ pub fn count_of(answer: InputAnswer, values: usize) -> usize
     requires { values < slots }
     ensures { result ≡ count_of answer values }
 {
-    match answer {
-        InputAnswer::Matched { end: _, total: _ } => values + 1,
-        InputAnswer::Refused(_) => 0,
-        InputAnswer::Lost(_) => 0,
-        InputAnswer::Ligature => 0,
-    }
+    if answer.is_ok() { values + 1 } else { 0 }
 }
 
 // Under GPOS nothing is searched for a base.
@@ -158,7 +184,7 @@ pub fn take_input(
     let mut i = 0;
     while i < values.len() {
         if len <= next {
-            return lose(InputAnswer::Lost(next), positions);
+            return lose(NoMatch::Lost(next), positions);
         }
         let q = next;
         next += 1;
@@ -169,47 +195,36 @@ pub fn take_input(
                 Verdict::Match => {
                     base = ligature::look_for_base(base, first, this, searched, m, sets);
                     if !ligature::may_join(first, this, base) {
-                        return lose(InputAnswer::Ligature, positions);
+                        return lose(NoMatch::Ligature, positions);
                     }
                     i += 1;
                     positions[i] = q as u16;
                     total += this.ligated as u16;
                 }
-                Verdict::NotMatch => return lose(InputAnswer::Lost(next), positions),
+                Verdict::NotMatch => return lose(NoMatch::Lost(next), positions),
                 Verdict::Skip => {}
             }
         }
     }
-    InputAnswer::Matched { end: next, total }
+    Ok(Success { end: next, total })
 }
 
 // What had been taken is no match: no slot stays filled.
-fn lose(answer: InputAnswer, positions: &mut [u16; 64]) -> InputAnswer
-    ensures { (result ≡ answer) × (positions.new ≡ slotted []) }
+fn lose(why: NoMatch, positions: &mut [u16; 64]) -> InputAnswer
+    ensures { (result ≡ Err why) × (positions.new ≡ slotted []) }
 {
     *positions = [0u16; 64];
-    answer
+    Err(why)
 }
 
-// ---- 01's number of a refusal, and an answer by its number
-
-pub fn refusal_number(why: Refusal) -> u8
-    ensures { result ≡ refusal_number why }
-{
-    match why {
-        Refusal::Shape => 1,
-        Refusal::Cursor => 2,
-        Refusal::Values => 3,
-        Refusal::Start => 6,
-    }
-}
+// ---- an answer by its number
 
 pub fn answer_from(number: u8, end: usize, total: u16) -> InputAnswer
     ensures { result ≡ answer_from number end total }
 {
     if number == 0 {
-        InputAnswer::Matched { end, total }
+        Ok(Success { end, total })
     } else {
-        InputAnswer::Ligature
+        Err(NoMatch::Ligature)
     }
 }

@@ -1,6 +1,6 @@
 -- The places taken so far are in their slots, and what all values take is what the values left take after them, from `next` on. Each turn
 -- tests the next place for the value that is due. What is known of the base stays so. Assumes nothing.
-use Rattle.std.proofs.Common.{Bool, List, [], ap, ap₂, arith, cond, drop, false, get_or, length, set, subst, sym, true, ℕ, ◌*◌, ◌+◌, ◌<◌, ◌^◌, ◌∙◌}
+use Rattle.std.proofs.Common.{Bool, List, Ok, Result, [], ap, ap₂, arith, cond, drop, false, get_or, length, set, subst, sym, true, ℕ, ◌*◌, ◌+◌, ◌<◌, ◌^◌, ◌∙◌}
 use Rattle.std.proofs.Common.{◌∷◌, ◌≡◌, ◌≤◌}
 use Rattle.glyph.specs.declared.Glyph.{Glyph}
 use Rattle.glyph.specs.Glyph.{limit, glyphs_of, blank}
@@ -15,7 +15,8 @@ use Rattle.walk.specs.declared.Walked.TheVariants.{Found, Stopped, RanOut}
 use Rattle.walk.specs.Walk.{on_verdict, walk_from}
 use Rattle.walk.specs.Steps.{walk_end}
 use Rattle.ligature.specs.declared.Ligbase.{Ligbase}
-use Rattle.matching.specs.declared.InputAnswer.{InputAnswer}
+use Rattle.matching.specs.declared.Success.{Success}
+use Rattle.matching.specs.declared.NoMatch.{NoMatch}
 use Rattle.matching.specs.Take.{ahead, Outcome, unlike, having, on_walked, takes}
 use Rattle.ligature.specs.Ligature.{may_join, base_skips}
 use Rattle.ligature.specs.Laws.{Known, looked_known, looked_serves}
@@ -152,7 +153,7 @@ unfolding input_by
 returns-then-len-next c =
     let r = (goal.at.returns-then-len-next c).In-loop-i in
     let out = walk_end (on r (get_or (values r) (i r) 0)) (length (gs r)) (next r) (omega (arith, long r, c.if-len-next.true)) in
-    ap₂ (λ (a : InputAnswer) (l : List ℕ). made_of a (length (values r)) l) c.lose.ensures.0 c.lose.ensures.1
+    ap₂ (λ (a : Result Success NoMatch) (l : List ℕ). made_of a (length (values r)) l) c.lose.ensures.0 c.lose.ensures.1
     ∙ sym (ap (input_told (gs r) (idx r)) (whole r (RanOut (next r)) out))
 
 pub overflow_add-next-in-loop-i : goal.overflow_add-next-in-loop-i
@@ -175,7 +176,7 @@ returns-then-not-may_join c =
     let inside : next r < length (gs r) = omega (arith, long r, c.if-len-next.false) in
     let read = c.read-this.ensures in
     let said = rest r _ read _ _ c.is_skip_yes.ensures c.if-not-is_skip_yes.true c.on_rest.ensures ∙ c.in-Match.is in
-    ap₂ (λ (a : InputAnswer) (l : List ℕ). made_of a (length (values r)) l) c.lose-then-not-may_join.ensures.0 c.lose-then-not-may_join.ensures.1
+    ap₂ (λ (a : Result Success NoMatch) (l : List ℕ). made_of a (length (values r)) l) c.lose-then-not-may_join.ensures.0 c.lose-then-not-may_join.ensures.1
     ∙ sym (ap (input_told (gs r) (idx r)) (whole r (Found (next r)) (walked r inside Match said)
     ∙ ap (λ (b : Bool). having (going r).qs (cond b (having (next r ∷ []) (from r (next r + 1) (drop (i r + 1) (values r)))) unlike))
     (kept r _ read _ _ c.look_for_base-base.ensures c.may_join.ensures ∙ c.if-not-may_join.true)))
@@ -225,7 +226,7 @@ returns-in-NotMatch c =
     let r = (goal.at.returns-in-NotMatch c).In-loop-i in
     let inside : next r < length (gs r) = omega (arith, long r, c.if-len-next.false) in
     let said = rest r _ c.read-this.ensures _ _ c.is_skip_yes.ensures c.if-not-is_skip_yes.true c.on_rest.ensures ∙ c.in-NotMatch.is in
-    ap₂ (λ (a : InputAnswer) (l : List ℕ). made_of a (length (values r)) l) c.lose-in-NotMatch.ensures.0 c.lose-in-NotMatch.ensures.1
+    ap₂ (λ (a : Result Success NoMatch) (l : List ℕ). made_of a (length (values r)) l) c.lose-in-NotMatch.ensures.0 c.lose-in-NotMatch.ensures.1
     ∙ sym (ap (input_told (gs r) (idx r)) (whole r (Stopped (next r + 1)) (walked r inside NotMatch said)))
 
 pub loop-i-smaller-in-Skip : goal.loop-i-smaller-in-Skip
@@ -259,7 +260,7 @@ returns c =
     let l = c.loop-i in
     let gs = glyphs_of a.text.now in
     let n : length a.values.now + 1 ≡ l.i + 1 = omega (arith, l.invariant.0.within, c.loop-i-test.false) in
-    (λ j. record { answer = InputAnswer.Matched l.next l.total; count = n j; positions = l.positions })
+    (λ j. record { answer = Ok (record { end = l.next; total = l.total }); count = n j; positions = l.positions })
     ∙ sym (going_done gs (judge a.m a.sets.now (value_by a.test a.lists.now) (get_or gs a.idx blank).syllable gs)
     (joins a.m a.sets.now (glyphs_of a.searched.now) gs a.idx)
     a.idx a.values.now l.positions l.total l.next l.i l.invariant.0 (omega arith))
