@@ -1,8 +1,7 @@
 -- The code's side: a frame as the code hands it on: its numbers in a head, its lists in three slices.
-use Rattle.std.specs.Prelude.{ℕ, ◌≤◌, ◌≡◌, List, [], length}
+use Rattle.std.specs.Prelude.{ℕ, ◌≤◌, ◌≡◌, List, [], Option, Some, None, length}
 use Rattle.glyph.specs.Glyph.{glyphs_of}
 use Rattle.tape_frame.specs.declared.Head.{Head}
-use Rattle.tape_frame.specs.declared.Decoded.{Decoded}
 use Rattle.tape_frame.specs.Frame.{Frame, LineRead, a_frame, not_frame, most_values, most_glyphs}
 use Rattle.tape_frame.specs.Put.{put}
 
@@ -18,9 +17,9 @@ head_of f = record {
   coming = length (glyphs_of f.coming);
 }
 
-abbrev pub decoded : LineRead → Decoded
-decoded (a_frame f) = Decoded.Frame (head_of f)
-decoded not_frame = Decoded.NoFrame
+abbrev pub decoded : LineRead → Option Head
+decoded (a_frame f) = Some (head_of f)
+decoded not_frame = None
 
 -- a frame's lists; no frame has none
 abbrev pub values_of : LineRead → List ℕ
@@ -36,7 +35,7 @@ coming_of (a_frame f) = f.coming
 coming_of not_frame = []
 
 -- the answer is the reading's, and each of the three slices holds the reading's list from its front, what stands past it as it was
-pub record Decodes (r : LineRead) (answer : Decoded) (v v' d d' c c' : List ℕ) : Type 0 where
+pub record Decodes (r : LineRead) (answer : Option Head) (v v' d d' c c' : List ℕ) : Type 0 where
   pub answers : answer ≡ decoded r
   pub values : v' ≡ put v 0 (values_of r)
   pub done : d' ≡ put d 0 (done_of r)

@@ -1,13 +1,12 @@
 -- What the code counts on of a head, how the lists of a frame are read as its head counts them, and what is known of a line by what it was
 -- decoded to.
-use Rattle.std.specs.Prelude.{ℕ, ◌*◌, ◌≡◌, refl, List, true, length}
+use Rattle.std.specs.Prelude.{ℕ, ◌*◌, ◌≡◌, refl, List, Some, None, true, length}
 use Rattle.std.proofs.Common.{sym, ◌∙◌, arith}
 use Rattle.std.proofs.Math.Path.{ap}
 use Rattle.glyph.specs.Glyph.{words, glyphs_of, Row}
 use Rattle.glyph.specs.Laws.{length_row}
 use Rattle.verdict.specs.declared.Table.{Table}
 use Rattle.tape_frame.specs.declared.Head.{Head}
-use Rattle.tape_frame.specs.declared.Decoded.{Decoded}
 use Rattle.tape_frame.specs.Digits.{bytes_of}
 use Rattle.tape_frame.specs.Frame.{Frame, LineRead, a_frame, not_frame, words_at, values_at, value_count}
 use Rattle.tape_frame.specs.Frame.{done_count, coming_count, done_at, coming_at, is_whole, frame_in, frame_of}
@@ -26,7 +25,7 @@ head_bounded table b e =
     }
 
 -- no frame: nothing is stored
-pub decodes_none : (r : LineRead) (v d c : List ℕ) → r ≡ not_frame → Decodes r Decoded.NoFrame v v d d c c
+pub decodes_none : (r : LineRead) (v d c : List ℕ) → r ≡ not_frame → Decodes r None v v d d c c
 decodes_none r v d c e =
     rw e (record { answers = refl; values = sym (put_none v 0); done = sym (put_none d 0); coming = sym (put_none c 0) })
 
@@ -76,7 +75,7 @@ frame_rows l f h =
 
 -- ---- what is known of a line by what it was decoded to
 
-pub none_told : (r : LineRead) → Decoded.NoFrame ≡ decoded r → r ≡ not_frame
+pub none_told : (r : LineRead) → None ≡ decoded r → r ≡ not_frame
 none_told (a_frame f) e = let z : ◌≡◌ {A = ℕ} 0 1 = cc in absurd (omega arith)
 none_told not_frame e = refl
 
@@ -85,7 +84,7 @@ pub record FrameTold (r : LineRead) (h : Head) : Type 0 where
   pub is : r ≡ a_frame frame
   pub head : h ≡ head_of frame
 
-pub frame_told : (r : LineRead) (h : Head) → Decoded.Frame h ≡ decoded r → FrameTold r h
+pub frame_told : (r : LineRead) (h : Head) → Some h ≡ decoded r → FrameTold r h
 frame_told (a_frame f) h e = record { frame = f; is = refl; head = cc }
 frame_told not_frame h e = let z : ◌≡◌ {A = ℕ} 0 1 = cc in absurd (omega arith)
 

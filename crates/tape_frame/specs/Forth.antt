@@ -1,7 +1,7 @@
 -- Read and written down again: a line that is a frame is that frame's line, up to the case of its digits, and the frame is within
 -- the limits. So a line is read in one way only, and no line is a frame that `line_of` doesn't write.
 use Prim.Native.Nat.{ℕ, zero, suc, ◌+◌, ◌-◌, ◌*◌, ◌/◌, ◌%◌, ◌≤◌, ◌<◌}
-use Rattle.std.specs.Prelude.{◌≡◌, refl, Bool, true, false, cond, not, ◌&&◌, ◌||◌, eqb, ltb}
+use Rattle.std.specs.Prelude.{◌≡◌, refl, Some, None, Bool, true, false, cond, not, ◌&&◌, ◌||◌, eqb, ltb}
 use Rattle.std.proofs.Math.Path.{sym, ap}
 use Rattle.std.proofs.Common.{◌∙◌, true≢false, ltb-true, ltb-false, eqb-true, le-ltb, lt-ltb, drop-cons}
 use mathlib.Core.List.{List, [], ◌∷◌, ◌++◌, append-nil}
@@ -13,7 +13,6 @@ use Rattle.bits.proofs.Laws.{every_at, and_left, and_right}
 use Rattle.glyph.specs.Glyph.{words, glyphs_of}
 use Rattle.glyph.specs.Laws.{length_row}
 use Rattle.verdict.specs.declared.Table.{Table}
-use Rattle.tape_frame.specs.declared.Kind.{Kind}
 use Rattle.tape_frame.specs.Digits.{no_digit, digit, is_digit, spells, bytes_of}
 use Rattle.tape_frame.specs.Frame.{Frame, a_frame, half_at, word_at, words_at, opens, gsub, gpos, table_kind, settings_of}
 use Rattle.tape_frame.specs.Frame.{value_count, done_count, coming_count, counts_at, done_at, coming_at, frame_end, frame_in, frame_of}
@@ -159,12 +158,12 @@ module _ (b : List ℕ) (s : Below 256 b) where
 
 -- ---- the opening
 
-kind_gsub : (p q : Bool) → cond p Kind.Gsub (cond q Kind.Gpos Kind.Neither) ≡ Kind.Gsub → p ≡ true
+kind_gsub : (p q : Bool) → cond p (Some Table.Gsub) (cond q (Some Table.Gpos) None) ≡ Some Table.Gsub → p ≡ true
 kind_gsub true q e = refl
 kind_gsub false true e = let z : ◌≡◌ {A = ℕ} 0 1 = cc in absurd (omega arith)
 kind_gsub false false e = let z : ◌≡◌ {A = ℕ} 0 1 = cc in absurd (omega arith)
 
-kind_gpos : (p q : Bool) → cond p Kind.Gsub (cond q Kind.Gpos Kind.Neither) ≡ Kind.Gpos → q ≡ true
+kind_gpos : (p q : Bool) → cond p (Some Table.Gsub) (cond q (Some Table.Gpos) None) ≡ Some Table.Gpos → q ≡ true
 kind_gpos true q e = let z : ◌≡◌ {A = ℕ} 0 1 = cc in absurd (omega arith)
 kind_gpos false true e = refl
 kind_gpos false false e = let z : ◌≡◌ {A = ℕ} 0 1 = cc in absurd (omega arith)

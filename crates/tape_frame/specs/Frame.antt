@@ -1,12 +1,11 @@
 -- A line of the tape as a frame or none (01, "The bench tape"): the four bytes GSUB or GPOS, settings 1, mask 4, props 4, cursor 2,
 -- value count 1, values 4 each, done count 2, coming count 2, records; big-endian, done's records before coming's.
 -- `Line` says the same by writing a frame down, and `Back` and `Forth` show that the two agree.
-use Rattle.std.specs.Prelude.{ℕ, zero, suc, ◌+◌, ◌*◌, List, [], ◌∷◌, Bool, cond, ◌&&◌, eqb, ltb, leb, length, get_or}
+use Rattle.std.specs.Prelude.{ℕ, zero, suc, ◌+◌, ◌*◌, List, [], ◌∷◌, Option, Some, None, Bool, cond, ◌&&◌, eqb, ltb, leb, length, get_or}
 use Rattle.bits.specs.Bits.{bit}
 use Rattle.glyph.specs.Glyph.{words}
 use Rattle.verdict.specs.declared.Table.{Table}
 use Rattle.verdict.specs.declared.Settings.{Settings}
-use Rattle.tape_frame.specs.declared.Kind.{Kind}
 use Rattle.tape_frame.specs.Digits.{spells, bytes_of}
 
 -- what a line asks: input matching of the values against a text, whose two rows are words
@@ -65,8 +64,8 @@ gsub = 71 ∷ 83 ∷ 85 ∷ 66 ∷ []
 abbrev pub gpos : List ℕ
 gpos = 71 ∷ 80 ∷ 79 ∷ 83 ∷ []
 
-unfoldable pub table_kind : List ℕ → Kind
-table_kind b = cond (opens b gsub) Kind.Gsub (cond (opens b gpos) Kind.Gpos Kind.Neither)
+unfoldable pub table_kind : List ℕ → Option Table
+table_kind b = cond (opens b gsub) (Some Table.Gsub) (cond (opens b gpos) (Some Table.Gpos) None)
 
 -- 1 auto-ZWNJ, 2 auto-ZWJ, 4 syllables
 unfoldable pub settings_of : Table → ℕ → Settings
@@ -120,10 +119,9 @@ frame_in table b = record {
 abbrev pub whole_frame : Table → List ℕ → LineRead
 whole_frame table b = cond (is_whole b) (a_frame (frame_in table b)) not_frame
 
-abbrev pub of_kind : Kind → List ℕ → LineRead
-of_kind Kind.Gsub b = whole_frame Table.Gsub b
-of_kind Kind.Gpos b = whole_frame Table.Gpos b
-of_kind Kind.Neither b = not_frame
+abbrev pub of_kind : Option Table → List ℕ → LineRead
+of_kind (Some table) b = whole_frame table b
+of_kind None b = not_frame
 
 unfoldable pub read_bytes : List ℕ → LineRead
 read_bytes b = of_kind (table_kind b) b

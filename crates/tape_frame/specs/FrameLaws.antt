@@ -1,13 +1,12 @@
 -- Words a word at a time, as the code's loop reads them; what a whole frame keeps to, that a longer line is none, and what a line that is a frame
 -- has.
 use Prim.Native.Nat.{ℕ, zero, suc, ◌+◌, ◌-◌, ◌*◌, ◌%◌, ◌≤◌, ◌<◌}
-use Rattle.std.specs.Prelude.{◌≡◌, refl, List, [], ◌∷◌, Bool, true, false, cond, ◌&&◌, ◌⊎◌, eqb, ltb, leb, length, get_or}
+use Rattle.std.specs.Prelude.{◌≡◌, refl, List, [], ◌∷◌, Option, Some, None, Bool, true, false, cond, ◌&&◌, ◌⊎◌, eqb, ltb, leb, length, get_or}
 use Rattle.std.proofs.Common.{sym, ◌∙◌, true≢false, inl, inr, ⊎_elim, ltb-true, leb-true, eqb-true, lt-ltb, le-leb, eq-eqb}
 use Rattle.std.proofs.Math.Path.{ap}
 use native.Mathlib.Omega.{arith}
 use Rattle.bits.proofs.Laws.{and_left, and_right}
 use Rattle.verdict.specs.declared.Table.{Table}
-use Rattle.tape_frame.specs.declared.Kind.{Kind}
 use Rattle.tape_frame.specs.Digits.{spells, bytes_of}
 use Rattle.tape_frame.specs.DigitLaws.{spells_odd, length_bytes}
 use Rattle.tape_frame.specs.Frame.{Frame, most_values, most_glyphs, most_bytes, most_digits, a_frame, not_frame, word_at, words_at, table_kind}
@@ -78,10 +77,9 @@ too_long b true e h =
     absurd z
 too_long b false e h = refl
 
-by_kind : (k : Kind) (b : List ℕ) → is_whole b ≡ false → of_kind k b ≡ not_frame
-by_kind Kind.Gsub b e = rw e
-by_kind Kind.Gpos b e = rw e
-by_kind Kind.Neither b e = refl
+by_kind : (k : Option Table) (b : List ℕ) → is_whole b ≡ false → of_kind k b ≡ not_frame
+by_kind (Some table) b e = rw e
+by_kind None b e = refl
 
 even_or_odd : (n : ℕ) → (n % 2 ≡ 0) ⊎ (n % 2 ≡ 1)
 even_or_odd zero = inl refl
@@ -105,9 +103,8 @@ long_none l h = even_long l (spells l) refl h
 
 -- ---- what a line that is a frame has
 
-abbrev pub kind_for : Table → Kind
-kind_for Table.Gsub = Kind.Gsub
-kind_for Table.Gpos = Kind.Gpos
+abbrev pub kind_for : Table → Option Table
+kind_for table = Some table
 
 pub record LineHas (l : List ℕ) (f : Frame) : Type 0 where
   pub spelled : spells l ≡ true
@@ -124,10 +121,9 @@ has_whole : (l : List ℕ) (f : Frame) (table : Table) (w : Bool) → spells l �
 has_whole l f table true s k e h = record { spelled = s; table = table; tag = k; full = e; same = cc }
 has_whole l f table false s k e h = absurd (not_that f h)
 
-has_kind : (l : List ℕ) (f : Frame) (k : Kind) → spells l ≡ true → table_kind (bytes_of l) ≡ k → of_kind k (bytes_of l) ≡ a_frame f → LineHas l f
-has_kind l f Kind.Gsub s e h = has_whole l f Table.Gsub (is_whole (bytes_of l)) s e refl h
-has_kind l f Kind.Gpos s e h = has_whole l f Table.Gpos (is_whole (bytes_of l)) s e refl h
-has_kind l f Kind.Neither s e h = absurd (not_that f h)
+has_kind : (l : List ℕ) (f : Frame) (k : Option Table) → spells l ≡ true → table_kind (bytes_of l) ≡ k → of_kind k (bytes_of l) ≡ a_frame f → LineHas l f
+has_kind l f (Some table) s e h = has_whole l f table (is_whole (bytes_of l)) s e refl h
+has_kind l f None s e h = absurd (not_that f h)
 
 has_spelled : (l : List ℕ) (f : Frame) (s : Bool) → spells l ≡ s → cond s (read_bytes (bytes_of l)) not_frame ≡ a_frame f → LineHas l f
 unfolding read_bytes

@@ -3,7 +3,7 @@
 
 ghost use Rattle.std.specs.Prelude.{◌≡◌, ◌+◌, ◌*◌, ◌≤◌, length, get_or};
 ghost use Rattle.glyph.specs.Glyph.{words};
-ghost use Rattle.tape_frame.specs.Frame.{half_at, word_at, words_at, opens, table_kind, settings_of, value_count};
+ghost use Rattle.tape_frame.specs.Frame.{half_at, word_at, words_at, table_kind, settings_of, value_count};
 ghost use Rattle.tape_frame.specs.Frame.{counts_at, done_count, coming_count, done_at, coming_at, is_whole, frame_in};
 ghost use Rattle.tape_frame.specs.Decoding.{head_of};
 ghost use Rattle.tape_frame.specs.Put.{put};
@@ -26,14 +26,6 @@ pub const MOST_DIGITS: usize = 2 * MOST_BYTES;
 // The words of a frame's row, at most.
 pub const ROW: usize = glyph::WORDS * MOST_GLYPHS;
 
-// The table kind that an opening chooses.
-#[derive(Clone, Copy)]
-pub enum Kind {
-    Gsub,
-    Gpos,
-    Neither,
-}
-
 // A frame's numbers: what a lookup asks, the cursor, how many values it has, and how many glyphs each row.
 #[derive(Clone, Copy)]
 pub struct Head {
@@ -46,18 +38,12 @@ pub struct Head {
     pub coming: usize,
 }
 
-#[derive(Clone, Copy)]
-pub enum Decoded {
-    Frame(Head),
-    NoFrame,
-}
-
 // ---- numbers, big-endian; what stands past the end counts as 0. Places are far below the largest number, so that no sum wraps.
 
 fn byte_at(b: &[u8], at: usize) -> u8
     ensures { result ≡ get_or b.now at 0 }
 {
-    if at < b.len() { b[at] } else { 0 }
+    b.get(at).copied().unwrap_or(0)
 }
 
 fn half_at(b: &[u8], at: usize) -> u16
@@ -83,37 +69,28 @@ pub fn fill(b: &[u8], at: usize, n: usize, out: &mut [u32])
     requires { (at + 4 * n ≤ 65000) × (n ≤ length out.old) }
     ensures { out.new ≡ put out.old 0 (words_at n at b.now) }
 {
-    let mut i = 0;
-    while i < n {
+    for i in 0..n {
         out[i] = word_at(b, at + 4 * i);
-        i += 1;
     }
 }
 
 // ---- the frame's parts
 
-// Whether the bytes begin with those of `name`.
-fn opens(b: &[u8], name: &[u8; 4]) -> bool
-    ensures { result ≡ opens b.now name.now }
-{
-    (byte_at(b, 0) == name[0])
-        & (byte_at(b, 1) == name[1])
-        & (byte_at(b, 2) == name[2])
-        & (byte_at(b, 3) == name[3])
-}
-
-pub fn kind_of(b: &[u8]) -> Kind
+// The table that the opening chooses.
+#[tactic(auto, using(crate::proofs::Opening::opens_gsub, crate::proofs::Opening::opens_gpos), unfolding(crate::specs::Frame::table_kind))]
+pub fn kind_of(b: &[u8]) -> Option<Table>
     ensures { result ≡ table_kind b.now }
 {
-    if opens(b, b"GSUB") {
-        return Kind::Gsub;
+    if b.starts_with(b"GSUB") {
+        return Some(Table::Gsub);
     }
-    if opens(b, b"GPOS") {
-        return Kind::Gpos;
+    if b.starts_with(b"GPOS") {
+        return Some(Table::Gpos);
     }
-    Kind::Neither
+    None
 }
 
+#[tactic(auto, unfolding(crate::specs::Frame::settings_of))]
 fn settings_of(table: Table, s: u8) -> Settings
     ensures { result ≡ settings_of table s }
 {
@@ -137,12 +114,14 @@ fn counts_at(b: &[u8]) -> usize
     VALUES_AT + 4 * value_count(b) as usize
 }
 
+#[tactic(auto, unfolding(crate::specs::Frame::done_count))]
 fn done_count(b: &[u8]) -> u16
     ensures { result ≡ done_count b.now }
 {
     half_at(b, counts_at(b))
 }
 
+#[tactic(auto, unfolding(crate::specs::Frame::coming_count))]
 fn coming_count(b: &[u8]) -> u16
     ensures { result ≡ coming_count b.now }
 {
@@ -163,6 +142,7 @@ pub fn coming_at(b: &[u8]) -> usize
 }
 
 // No other settings bits, the limits, and no byte too few or too many.
+#[tactic(auto, unfolding(crate::specs::Frame::is_whole))]
 pub fn is_whole(b: &[u8]) -> bool
     ensures { result ≡ is_whole b.now }
 {
@@ -170,10 +150,7 @@ pub fn is_whole(b: &[u8]) -> bool
     let d = done_count(b) as usize;
     let c = coming_count(b) as usize;
     let end = coming_at(b) + 4 * (glyph::WORDS * c);
-    (byte_at(b, 4) < 8)
-        & (v <= MOST_VALUES)
-        & ((d <= MOST_GLYPHS) & (c <= MOST_GLYPHS))
-        & (b.len() == end)
+    byte_at(b, 4) < 8 && v <= MOST_VALUES && d <= MOST_GLYPHS && c <= MOST_GLYPHS && b.len() == end
 }
 
 pub fn head_of(table: Table, b: &[u8]) -> Head
