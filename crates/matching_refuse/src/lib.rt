@@ -3,17 +3,9 @@
 
 ghost use Rattle.std.specs.Prelude.{◌≡◌, cond};
 ghost use Rattle.matching.specs.declared.Refusal.TheVariants.{Shape, Cursor, Values, Start};
-ghost use Rattle.matching_refuse.specs.declared.Fit.{Fit};
 ghost use Rattle.matching_refuse.specs.Fit.{bad_text, input_fit, ahead_fit, back_fit};
 
 use matching::{MAX_CONTEXT_LENGTH, Refusal};
-
-// What the tests before matching say.
-#[derive(Clone, Copy)]
-pub enum Fit {
-    Fits,
-    Refused(Refusal),
-}
 
 // A text whose rows, lengths or mark sets are ill shaped.
 fn is_bad_text(done: &[u32], d: usize, coming: &[u32], len: usize, sets: &[u16]) -> bool
@@ -35,7 +27,7 @@ pub fn input_fit(
     idx: usize,
     sets: &[u16],
     values: usize,
-) -> Fit
+) -> Result<(), Refusal>
     ensures { result ≡ input_fit done.now d coming.now len idx sets.now values }
 {
     let bad = is_bad_text(done, d, coming, len, sets);
@@ -52,7 +44,7 @@ pub fn ahead_fit(
     start: usize,
     sets: &[u16],
     values: usize,
-) -> Fit
+) -> Result<(), Refusal>
     ensures { result ≡ ahead_fit done.now d coming.now len idx start sets.now values }
 {
     let bad = is_bad_text(done, d, coming, len, sets) | (len < start);
@@ -68,7 +60,7 @@ pub fn back_fit(
     idx: usize,
     sets: &[u16],
     values: usize,
-) -> Fit
+) -> Result<(), Refusal>
     ensures { result ≡ back_fit done.now d coming.now len idx sets.now values }
 {
     let bad = is_bad_text(done, d, coming, len, sets);
@@ -76,21 +68,21 @@ pub fn back_fit(
 }
 
 // The first line of 01's table that refuses, in its order: 1, 2, 3, 6.
-fn first_line(bad: bool, past: bool, many: bool, unbegun: bool) -> Fit
-    ensures { result ≡ cond bad (Fit.Refused Shape)
-        (cond past (Fit.Refused Cursor) (cond many (Fit.Refused Values) (cond unbegun (Fit.Refused Start) Fit.Fits))) }
+fn first_line(bad: bool, past: bool, many: bool, unbegun: bool) -> Result<(), Refusal>
+    ensures { result ≡ cond bad (Err Shape)
+        (cond past (Err Cursor) (cond many (Err Values) (cond unbegun (Err Start) (Ok tt)))) }
 {
     if bad {
-        return Fit::Refused(Refusal::Shape);
+        return Err(Refusal::Shape);
     }
     if past {
-        return Fit::Refused(Refusal::Cursor);
+        return Err(Refusal::Cursor);
     }
     if many {
-        return Fit::Refused(Refusal::Values);
+        return Err(Refusal::Values);
     }
     if unbegun {
-        return Fit::Refused(Refusal::Start);
+        return Err(Refusal::Start);
     }
-    Fit::Fits
+    Ok(())
 }
