@@ -3,10 +3,10 @@
 
 ghost use Rattle.std.specs.Prelude.{◌≡◌};
 ghost use Rattle.run.specs.Run.{is_over};
-ghost use Rattle.run.specs.Numbers.{ending_number, run_refusal_number, run_number};
+ghost use Rattle.run.specs.Numbers.{run_number};
 
 // What is the same for every chain of a run: the three switches and the lookup mask. A run is of GSUB, so no table is named.
-#[derive(Clone, Copy)]
+#[derive(Clone, Copy, Debug, PartialEq, Eq)]
 pub struct Given {
     pub zwnj: bool,
     pub zwj: bool,
@@ -14,76 +14,38 @@ pub struct Given {
     pub mask: u32,
 }
 
-#[derive(Clone, Copy)]
+// Each with 01's number; Finished has none there, 0 is our choice.
+#[derive(Clone, Copy, Debug, PartialEq, Eq)]
 pub enum Ending {
-    Finished,
-    Short,
-    Deep,
-    Full,
+    Finished = 0,
+    Short = 8,
+    Deep = 9,
+    Full = 10,
 }
 
-// What a run is refused for before anything is tried.
-#[derive(Clone, Copy)]
+// What a run is refused for before anything is tried, each with its number.
+#[derive(Clone, Copy, Debug, PartialEq, Eq)]
 pub enum RunRefusal {
-    // Refusal 1.
-    Shape,
-    // Refusal 2.
-    Cursor,
-    // Refusal 12.
-    Limits,
-    // Refusal 11.
-    Book,
-    // Refusal 7.
-    Match,
-}
-
-#[derive(Clone, Copy)]
-pub enum RunEnding {
-    Ended(Ending),
-    Refused(RunRefusal),
+    Shape = 1,
+    Cursor = 2,
+    Limits = 12,
+    Book = 11,
+    Match = 7,
 }
 
 // Whether no record at any level is looked at again.
 pub fn is_over(e: Ending) -> bool
     ensures { result ≡ is_over e }
 {
-    match e {
-        Ending::Finished => false,
-        Ending::Short => false,
-        Ending::Deep => true,
-        Ending::Full => true,
-    }
+    matches!(e, Ending::Deep | Ending::Full)
 }
 
 // 01's number of a run's ending or refusal.
-pub fn number_of(e: RunEnding) -> u8
+pub fn number_of(e: Result<Ending, RunRefusal>) -> u8
     ensures { result ≡ run_number e }
 {
     match e {
-        RunEnding::Ended(ending) => ending_number(ending),
-        RunEnding::Refused(why) => refusal_number(why),
-    }
-}
-
-fn ending_number(e: Ending) -> u8
-    ensures { result ≡ ending_number e }
-{
-    match e {
-        Ending::Finished => 0,
-        Ending::Short => 8,
-        Ending::Deep => 9,
-        Ending::Full => 10,
-    }
-}
-
-fn refusal_number(why: RunRefusal) -> u8
-    ensures { result ≡ run_refusal_number why }
-{
-    match why {
-        RunRefusal::Shape => 1,
-        RunRefusal::Cursor => 2,
-        RunRefusal::Limits => 12,
-        RunRefusal::Book => 11,
-        RunRefusal::Match => 7,
+        Ok(ending) => ending as u8,
+        Err(why) => why as u8,
     }
 }
