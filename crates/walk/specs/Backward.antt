@@ -8,7 +8,7 @@ use native.Mathlib.Omega.{arith}
 use Rattle.verdict.specs.declared.Verdict.{Verdict}
 use Rattle.verdict.specs.declared.Verdict.TheVariants.{Match, NotMatch, Skip}
 use Rattle.walk.specs.declared.Walked.{Walked}
-use Rattle.walk.specs.declared.Walked.TheVariants.{Found, Stopped, RanOut, Refused}
+use Rattle.walk.specs.declared.Walked.TheVariants.{Found, Stopped, RanOut}
 use Rattle.walk.specs.Walk.{on_verdict_back, walk_back}
 use Rattle.walk.specs.Means.{Passed, FindsBack, StopsBack, RunsOutBack, MeansBack}
 
@@ -37,7 +37,6 @@ module _ (v : ℕ → Verdict) where
     counts = f.counts;
   }
   more p (RanOut x) e f = record { all = passed_more 0 p e f.all; counts = f.counts }
-  more p Refused e f = f
 
   turn : (p : ℕ) (r : Verdict) (rest : Walked) → v p ≡ r → MeansBack v p rest → MeansBack v (suc p) (on_verdict_back r p rest)
   turn p Match rest e f = record { earlier = omega arith; between = λ k g h. absurd (omega arith); matches = e }
@@ -60,7 +59,6 @@ module _ (v : ℕ → Verdict) where
   complete zero (Found q) f = let h = f.earlier in absurd (omega arith)
   complete zero (Stopped x) f = let h = f.earlier in absurd (omega arith)
   complete zero (RanOut x) f = ap RanOut (sym f.counts)
-  complete zero Refused f = absurd f
   complete (suc p) (Found q) f =
       let le : q ≤ p = let h = f.earlier in omega arith in
       ⊎_elim
@@ -87,7 +85,6 @@ module _ (v : ℕ → Verdict) where
   complete (suc p) (RanOut x) f =
       rw (f.all p (omega arith) (omega arith))
       (complete p (RanOut x) (record { all = passed_less 0 p f.all; counts = f.counts }))
-  complete (suc p) Refused f = absurd f
 
   module _ (place : ℕ) where
     pub back_means : (r : Walked) → (walk_back v place ≡ r) ↔ MeansBack v place r

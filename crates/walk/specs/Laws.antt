@@ -8,7 +8,7 @@ use native.Mathlib.Omega.{arith}
 use Rattle.verdict.specs.declared.Verdict.{Verdict}
 use Rattle.verdict.specs.declared.Verdict.TheVariants.{Match, NotMatch, Skip}
 use Rattle.walk.specs.declared.Walked.{Walked}
-use Rattle.walk.specs.declared.Walked.TheVariants.{Found, Stopped, RanOut, Refused}
+use Rattle.walk.specs.declared.Walked.TheVariants.{Found, Stopped, RanOut}
 use Rattle.walk.specs.Walk.{on_verdict, walk, walk_from}
 use Rattle.walk.specs.Means.{Passed, Finds, Stops, RunsOut, Means}
 
@@ -38,7 +38,6 @@ module _ (v : ℕ → Verdict) (len : ℕ) where
     counts = f.counts;
   }
   more next (RanOut x) l e f = record { all = passed_more next len e f.all; counts = let h = f.counts in omega arith }
-  more next Refused l e f = f
 
   turn : (next : ℕ) (r : Verdict) (rest : Walked) → next < len → v next ≡ r → Means v len (next + 1) rest → Means v len next (on_verdict r next rest)
   turn next Match rest l e f = record {
@@ -68,7 +67,6 @@ module _ (v : ℕ → Verdict) (len : ℕ) where
   complete zero next (Found q) e f = let h = f.later in let i = f.inside in absurd (omega arith)
   complete zero next (Stopped x) e f = let h = f.later in let i = f.inside in absurd (omega arith)
   complete zero next (RanOut x) e f = ap RanOut (let h = f.counts in omega arith)
-  complete zero next Refused e f = absurd f
   complete (suc n) next (Found q) e f =
       ⊎_elim
       (λ s. rw (subst (λ (k : ℕ). v k ≡ Match) (sym s) f.matches) (ap Found s))
@@ -101,7 +99,6 @@ module _ (v : ℕ → Verdict) (len : ℕ) where
       rw (f.all next (omega arith) (omega arith))
       (complete n (next + 1) (RanOut x) (omega arith)
       (record { all = passed_less next len f.all; counts = let h = f.counts in omega arith }))
-  complete (suc n) next Refused e f = absurd f
 
   module _ (next : ℕ) where
     pub walk_means : (r : Walked) → (walk_from v len next ≡ r) ↔ Means v len next r

@@ -3,7 +3,7 @@ use Rattle.std.specs.Prelude.{ℕ, ◌+◌, ◌-◌, ◌≤◌, ◌<◌, max, �
 use Rattle.verdict.specs.declared.Verdict.{Verdict}
 use Rattle.verdict.specs.declared.Verdict.TheVariants.{Match, NotMatch, Skip}
 use Rattle.walk.specs.declared.Walked.{Walked}
-use Rattle.walk.specs.declared.Walked.TheVariants.{Found, Stopped, RanOut, Refused}
+use Rattle.walk.specs.declared.Walked.TheVariants.{Found, Stopped, RanOut}
 
 -- every place from a on and before b is passed over
 abbrev pub Passed : (ℕ → Verdict) → ℕ → ℕ → Type 0
@@ -36,7 +36,6 @@ abbrev pub Means : (ℕ → Verdict) → ℕ → ℕ → Walked → Type 0
 Means v len next (Found q) = Finds v len next q
 Means v len next (Stopped extent) = Stops v len next extent
 Means v len next (RanOut extent) = RunsOut v len next extent
-Means v len next Refused = ⊥
 
 -- ---- backward from a place
 
@@ -60,4 +59,3 @@ abbrev pub MeansBack : (ℕ → Verdict) → ℕ → Walked → Type 0
 MeansBack v place (Found q) = FindsBack v place q
 MeansBack v place (Stopped extent) = StopsBack v place extent
 MeansBack v place (RanOut extent) = RunsOutBack v place extent
-MeansBack v place Refused = ⊥

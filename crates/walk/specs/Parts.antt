@@ -11,7 +11,7 @@ use Rattle.verdict.specs.declared.Verdict.{Verdict}
 use Rattle.verdict.specs.declared.Verdict.TheVariants.{Match, NotMatch, Skip}
 use Rattle.verdict.specs.Verdict.{Asked, verdict, judge_at}
 use Rattle.walk.specs.declared.Walked.{Walked}
-use Rattle.walk.specs.declared.Walked.TheVariants.{Found, Stopped, RanOut, Refused}
+use Rattle.walk.specs.declared.Walked.TheVariants.{Found, Stopped, RanOut}
 use Rattle.walk.specs.Walk.{on_verdict, walk, walk_from, on_verdict_back, walk_back}
 
 -- an answer over a part that begins at `start`, counted in the whole row
@@ -19,7 +19,6 @@ abbrev pub raised : ℕ → Walked → Walked
 raised start (Found p) = Found (start + p)
 raised start (Stopped extent) = Stopped (start + extent)
 raised start (RanOut extent) = RanOut (start + extent)
-raised start Refused = Refused
 
 module _ (v : ℕ → Verdict) (start : ℕ) where
   turn : (r : Verdict) (p : ℕ) (rest rest' : Walked) → raised start rest ≡ rest' → raised start (on_verdict r p rest) ≡ on_verdict r (start + p) rest'

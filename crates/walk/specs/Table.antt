@@ -1,9 +1,10 @@
 -- The two calls keep what a walk promises. The code's test tells 01's line 1, so a walk is refused by it exactly where it doesn't let pass
 -- (Order); and a reply tells the case that it is of.
-use Rattle.std.specs.Prelude.{ℕ, ◌+◌, ◌≡◌, refl, List, [], ◌∷◌, ◌↔◌, ◌⊎◌, Bool, true, false, ◌||◌, ltb, length}
+use Rattle.std.specs.Prelude.{ℕ, ◌+◌, ◌≡◌, refl, List, [], ◌∷◌, ◌↔◌, ◌⊎◌, Bool, true, false, ◌||◌, ltb, length, Result, Ok, Err}
 use Rattle.std.proofs.Common.{sym, ap, ◌∙◌, inl, inr, ⊎_elim, true≢false, arith}
 use mathlib.Core.Logic.Iff
 use Rattle.std.proofs.Math.Option.{some, some_inj, none-ne-some}
+use Rattle.glyph.specs.declared.IllShaped.{IllShaped}
 use Rattle.glyph.specs.Glyph.{glyphs_of, ill_shaped}
 use Rattle.glyph.specs.Laws.{well_shaped}
 use Rattle.glyph.specs.Sets.{odd_sets}
@@ -13,7 +14,7 @@ use Rattle.glyph.specs.Tests.{both, over, paired}
 use Rattle.verdict.specs.declared.Matcher.{Matcher}
 use Rattle.verdict.specs.Verdict.{Asked, judge_at}
 use Rattle.walk.specs.declared.Walked.{Walked}
-use Rattle.walk.specs.declared.Walked.TheVariants.{Found, Stopped, RanOut, Refused}
+use Rattle.walk.specs.declared.Walked.TheVariants.{Found, Stopped, RanOut}
 use Rattle.walk.specs.Calls.{bad_walk, forward_of, backward_of, walk_reply}
 use Rattle.walk.specs.Means.{Means, MeansBack}
 use Rattle.glyph.specs.Reply.{replies}
@@ -42,14 +43,14 @@ walkable row len place sets =
 -- ---- refused
 
 -- each other answer has a value
-bare : (w : Walked) (n : ℕ) → walk_reply w ≡ replies n [] → w ≡ Refused
-bare (Found p) n e = let z = ap (λ (r : Reply). length r.values) e in absurd (omega arith)
-bare (Stopped x) n e = let z = ap (λ (r : Reply). length r.values) e in absurd (omega arith)
-bare (RanOut x) n e = let z = ap (λ (r : Reply). length r.values) e in absurd (omega arith)
-bare Refused n e = refl
+bare : (w : Result Walked IllShaped) (n : ℕ) → walk_reply w ≡ replies n [] → w ≡ Err (record {})
+bare (Ok (Found p)) n e = let z = ap (λ (r : Reply). length r.values) e in absurd (omega arith)
+bare (Ok (Stopped x)) n e = let z = ap (λ (r : Reply). length r.values) e in absurd (omega arith)
+bare (Ok (RanOut x)) n e = let z = ap (λ (r : Reply). length r.values) e in absurd (omega arith)
+bare (Err x) n e = refl
 
 -- so the number of a reply with none is what the test answers with
-first : (w : Walked) (bad : Bool) → (w ≡ Refused) ↔ (bad ≡ true)
+first : (w : Result Walked IllShaped) (bad : Bool) → (w ≡ Err (record {})) ↔ (bad ≡ true)
     → (n : ℕ) → (walk_reply w ≡ replies n []) ↔ (first_answer ((bad, 1) ∷ []) ≡ some n)
 unfolding first_answer
 first w true r n =
@@ -59,64 +60,48 @@ first w false r n = (λ e. absurd (true≢false (sym (r.0 (bare w n e)))), λ e.
 
 -- ---- found and lost
 
-tells_found : (w : Walked) (q : ℕ) → (walk_reply w ≡ replies 0 (q ∷ [])) ↔ (w ≡ Found q)
-tells_found (Found p) q = (λ e. let same = ap (λ (r : Reply). r.values) e in let z : p ≡ q = cc in ap Found z, λ e. ap walk_reply e)
-tells_found (Stopped x) q = (
-  λ e. let z : ◌≡◌ {A = ℕ} 4 0 = ap (λ (r : Reply). r.number) e in absurd (omega arith),
-  λ e. let z : ◌≡◌ {A = ℕ} 0 1 =
-      cc in absurd (omega arith),
-)
-tells_found (RanOut x) q = (
-  λ e. let z : ◌≡◌ {A = ℕ} 4 0 = ap (λ (r : Reply). r.number) e in absurd (omega arith),
-  λ e. let z : ◌≡◌ {A = ℕ} 0 1 =
-      cc in absurd (omega arith),
-)
-tells_found Refused q = (
-  λ e. let z : ◌≡◌ {A = ℕ} 1 0 = ap (λ (r : Reply). r.number) e in absurd (omega arith),
-  λ e. let z : ◌≡◌ {A = ℕ} 0 1 = cc in
-      absurd (omega arith),
-)
+tells_found : (w : Result Walked IllShaped) (q : ℕ) → (walk_reply w ≡ replies 0 (q ∷ [])) ↔ (w ≡ Ok (Found q))
+tells_found (Ok (Found p)) q = (λ e. let same = ap (λ (r : Reply). r.values) e in cc, λ e. ap walk_reply e)
+tells_found (Ok (Stopped x)) q = (λ e. let z = ap (λ (r : Reply). r.number) e in absurd (omega arith), λ e. cc)
+tells_found (Ok (RanOut x)) q = (λ e. let z = ap (λ (r : Reply). r.number) e in absurd (omega arith), λ e. cc)
+tells_found (Err x) q = (λ e. let z = ap (λ (r : Reply). r.number) e in absurd (omega arith), λ e. cc)
 
 -- stopped or ran out: 4 doesn't tell which
-lost_reply : (w : Walked) (x : ℕ) → (w ≡ Stopped x) ⊎ (w ≡ RanOut x) → walk_reply w ≡ replies 4 (x ∷ [])
+lost_reply : (w : Result Walked IllShaped) (x : ℕ) → (w ≡ Ok (Stopped x)) ⊎ (w ≡ Ok (RanOut x)) → walk_reply w ≡ replies 4 (x ∷ [])
 lost_reply w x o = ⊎_elim (λ e. ap walk_reply e) (λ e. ap walk_reply e) o
 
-tells_lost : (w : Walked) (x : ℕ) → walk_reply w ≡ replies 4 (x ∷ []) → (w ≡ Stopped x) ⊎ (w ≡ RanOut x)
-tells_lost (Found p) x e = let z : ◌≡◌ {A = ℕ} 0 4 = ap (λ (r : Reply). r.number) e in absurd (omega arith)
-tells_lost (Stopped y) x e = let same = ap (λ (r : Reply). r.values) e in let z : y ≡ x = cc in inl (ap Stopped z)
-tells_lost (RanOut y) x e = let same = ap (λ (r : Reply). r.values) e in let z : y ≡ x = cc in inr (ap RanOut z)
-tells_lost Refused x e = let z : ◌≡◌ {A = ℕ} 1 4 = ap (λ (r : Reply). r.number) e in absurd (omega arith)
+tells_lost : (w : Result Walked IllShaped) (x : ℕ) → walk_reply w ≡ replies 4 (x ∷ []) → (w ≡ Ok (Stopped x)) ⊎ (w ≡ Ok (RanOut x))
+tells_lost (Ok (Found p)) x e = let z = ap (λ (r : Reply). r.number) e in absurd (omega arith)
+tells_lost (Ok (Stopped y)) x e = let same = ap (λ (r : Reply). r.values) e in inl cc
+tells_lost (Ok (RanOut y)) x e = let same = ap (λ (r : Reply). r.values) e in inr cc
+tells_lost (Err y) x e = let z = ap (λ (r : Reply). r.number) e in absurd (omega arith)
 
--- an answer that isn't Refused wasn't refused by the test
-passed : (w : Walked) (bad : Bool) → (w ≡ Refused) ↔ (bad ≡ true) → (w ≡ Refused → ⊥) → bad ≡ false
-passed w true r n = absurd (n (r.1 refl))
-passed w false r n = refl
+-- an answer wasn't refused by the test
+passed : (w : Result Walked IllShaped) (r : Walked) (bad : Bool) → (w ≡ Err (record {})) ↔ (bad ≡ true) → w ≡ Ok r → bad ≡ false
+passed w r true t e = let f = t.1 refl in cc
+passed w r false t e = refl
 
-found_apart : (w : Walked) (q : ℕ) → w ≡ Found q → w ≡ Refused → ⊥
-found_apart w q e f = let same = sym e ∙ f in let z : ◌≡◌ {A = ℕ} 0 1 = cc in omega arith
-
-lost_apart : (w : Walked) (x : ℕ) → (w ≡ Stopped x) ⊎ (w ≡ RanOut x) → w ≡ Refused → ⊥
-lost_apart w x o f =
-    ⊎_elim (λ e. let same = sym e ∙ f in let z : ◌≡◌ {A = ℕ} 0 1 = cc in omega arith)
-    (λ e. let same = sym e ∙ f in let z : ◌≡◌ {A = ℕ} 0 1 = cc in omega arith) o
+lost_passed : (w : Result Walked IllShaped) (x : ℕ) (bad : Bool) → (w ≡ Err (record {})) ↔ (bad ≡ true)
+    → (w ≡ Ok (Stopped x)) ⊎ (w ≡ Ok (RanOut x)) → bad ≡ false
+lost_passed w x bad t o = ⊎_elim (passed w (Stopped x) bad t) (passed w (RanOut x) bad t) o
 
 -- ---- any call that refuses by a test, and else means something
 
-module _ (w : Walked) (bad : Bool) {W : Type 0} (good : (bad ≡ false) ↔ W) (refused : (w ≡ Refused) ↔ (bad ≡ true)) (M : Walked → Type 0)
-    (means : (r : Walked) → bad ≡ false → (w ≡ r) ↔ M r) where
+module _ (w : Result Walked IllShaped) (bad : Bool) {W : Type 0} (good : (bad ≡ false) ↔ W) (refused : (w ≡ Err (record {})) ↔ (bad ≡ true))
+    (M : Walked → Type 0) (means : (r : Walked) → bad ≡ false → (w ≡ Ok r) ↔ M r) where
   refused_by_lem : (n : ℕ) → (walk_reply w ≡ replies n []) ↔ RefusedBy n (record { number = 1; lets = W } ∷ [])
   refused_by_lem n =
       Iff.trans (first w bad refused n) (refused_exactly (record { test = bad; line = record { number = 1; lets = W }; tells = good } ∷ []) n)
 
   found_0 : (q : ℕ) → (walk_reply w ≡ replies 0 (q ∷ [])) ↔ (W × M (Found q))
   found_0 q = (
-    λ e. let f = (tells_found w q).0 e in let b = passed w bad refused (found_apart w q f) in (good.0 b, (means (Found q) b).0 f),
+    λ e. let f = (tells_found w q).0 e in let b = passed w (Found q) bad refused f in (good.0 b, (means (Found q) b).0 f),
     λ h. (tells_found w q).1 ((means (Found q) (good.1 h.0)).1 h.1),
   )
 
   lost_4 : (x : ℕ) → (walk_reply w ≡ replies 4 (x ∷ [])) ↔ (W × (M (Stopped x) ⊎ M (RanOut x)))
   lost_4 x = (
-    λ e. let o = tells_lost w x e in let b = passed w bad refused (lost_apart w x o) in
+    λ e. let o = tells_lost w x e in let b = lost_passed w x bad refused o in
         (good.0 b, ⊎_elim (λ f. inl ((means (Stopped x) b).0 f)) (λ f. inr ((means (RanOut x) b).0 f)) o),
     λ h. let b = good.1 h.0 in
         lost_reply w x (⊎_elim (λ m. inl ((means (Stopped x) b).1 m)) (λ m. inr ((means (RanOut x) b).1 m)) h.1),

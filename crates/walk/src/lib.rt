@@ -7,9 +7,10 @@ ghost use Rattle.verdict.specs.Verdict.{value_of, judge_at};
 ghost use Rattle.walk.specs.Walk.{walk_from, walk_back};
 ghost use Rattle.walk.specs.Calls.{bad_walk, forward_of, backward_of};
 
+use glyph::IllShaped;
 use verdict::{Matcher, Sign, Verdict};
 
-#[derive(Clone, Copy)]
+#[derive(Clone, Copy, Debug, PartialEq, Eq)]
 pub enum Walked {
     // The place of a glyph that matches.
     Found(usize),
@@ -17,8 +18,6 @@ pub enum Walked {
     Stopped(usize),
     // No glyph is left, by the walk's extent.
     RanOut(usize),
-    // Refusal 1.
-    Refused,
 }
 
 // From a place of a row, of which the first len glyphs count, to the next glyph that isn't passed over.
@@ -30,15 +29,16 @@ pub fn forward(
     sign: Sign,
     syllable: u8,
     sets: &[u16],
-) -> Walked
+) -> Result<Walked, IllShaped>
     ensures { result ≡ forward_of row.now len place m (value_of sign []) syllable sets.now }
 {
     if is_bad_walk(row, len, place, sets) {
-        return Walked::Refused;
+        return Err(IllShaped);
     }
     let from = walk_stretch::cross_ahead(row, len, place + 1, m.props, sets);
     let none = [0u16; 0];
-    forward_on(row, len, from, m, sign, &none, syllable, sets)
+    let walked = forward_from(row, len, from, m, sign, &none, syllable, sets);
+    Ok(walked)
 }
 
 // Back from a place of a row, to the glyph before it that isn't passed over.
@@ -49,15 +49,15 @@ pub fn backward(
     sign: Sign,
     syllable: u8,
     sets: &[u16],
-) -> Walked
+) -> Result<Walked, IllShaped>
     ensures { result ≡ backward_of row.now place m (value_of sign []) syllable sets.now }
 {
     if is_bad_walk(row, glyph::count(row), place, sets) {
-        return Walked::Refused;
+        return Err(IllShaped);
     }
     let from = walk_stretch::cross_behind(row, place, m.props, sets);
     let none = [0u16; 0];
-    backward_from(row, from, m, sign, &none, syllable, sets)
+    Ok(backward_from(row, from, m, sign, &none, syllable, sets))
 }
 
 // What a walk is refused for.
@@ -67,35 +67,9 @@ fn is_bad_walk(row: &[u32], len: usize, place: usize, sets: &[u16]) -> bool
     glyph::is_ill_shaped(row) | (glyph::count(row) < len) | (len < place) | glyph::is_odd(sets)
 }
 
-// The forward walk from a place on: `forward_from` once more, for speed. With one caller each, the compiler puts both loops where they are called; a
+// The forward walk, given the next place to test, so that it can begin before the first glyph of a part of a row. It stands where it is called: a
 // call would cost 2 to 5 ns.
-fn forward_on(
-    row: &[u32],
-    len: usize,
-    next: usize,
-    m: Matcher,
-    sign: Sign,
-    lists: &[u16],
-    syllable: u8,
-    sets: &[u16],
-) -> Walked
-    requires { len ≤ length (glyphs_of row.now) }
-    ensures { result ≡ walk_from (judge_at m (value_of sign lists.now) syllable sets.now
-        (glyphs_of row.now)) len next }
-{
-    let mut at = next;
-    while at < len {
-        match verdict_match::judge(m, sign, lists, syllable, sets, glyph::read(row, at)) {
-            Verdict::Match => return Walked::Found(at),
-            Verdict::NotMatch => return Walked::Stopped(at + 1),
-            Verdict::Skip => {}
-        }
-        at += 1;
-    }
-    Walked::RanOut(at)
-}
-
-// The forward walk, given the next place to test, so that it can begin before the first glyph of a part of a row.
+#[inline(always)]
 pub fn forward_from(
     row: &[u32],
     len: usize,
@@ -110,16 +84,14 @@ pub fn forward_from(
     ensures { result ≡ walk_from (judge_at m (value_of sign lists.now) syllable sets.now
         (glyphs_of row.now)) len next }
 {
-    let mut p = next;
-    while p < len {
+    for p in next..len {
         match verdict_match::judge(m, sign, lists, syllable, sets, glyph::read(row, p)) {
             Verdict::Match => return Walked::Found(p),
             Verdict::NotMatch => return Walked::Stopped(p + 1),
             Verdict::Skip => {}
         }
-        p += 1;
     }
-    Walked::RanOut(p)
+    Walked::RanOut(next.max(len))
 }
 
 // The extent of a backward walk that is stopped at p.

@@ -1,5 +1,5 @@
 -- A walk that isn't refused has its places in the row, and passes over the stretch before which it goes on. Assumes nothing.
-use Rattle.std.proofs.Common.{[], arith, length, sym, ◌∙◌, ◌≤◌}
+use Rattle.std.proofs.Common.{[], Ok, ap, arith, length, sym, ◌∙◌, ◌≤◌}
 use Rattle.glyph.specs.Glyph.{glyphs_of}
 use Rattle.verdict.specs.Verdict.{value_of, judge_at}
 use Rattle.walk.specs.Calls.{backward_of}
@@ -36,4 +36,4 @@ returns c =
     let seen = c.cross_behind-from.ensures in
     let over = stretch_passed a.m (value_of a.sign []) a.syllable a.sets.now gs from a.place seen.1 in
     rw (← c.count.ensures, ← c.is_bad_walk.ensures, c.if-is_bad_walk.false)
-    (c.backward_from.ensures ∙ sym (walk_past_back v a.place from seen.0 over))
+    (ap Ok (c.backward_from.ensures ∙ sym (walk_past_back v a.place from seen.0 over)))

@@ -1,5 +1,5 @@
 -- A walk that isn't refused has its places in the row, and passes over the stretch after which it goes on. Assumes nothing.
-use Rattle.std.proofs.Common.{[], arith, length, sym, ◌+◌, ◌∙◌, ◌≤◌}
+use Rattle.std.proofs.Common.{[], Ok, ap, arith, length, sym, ◌+◌, ◌∙◌, ◌≤◌}
 use Rattle.glyph.specs.Glyph.{glyphs_of}
 use Rattle.glyph.specs.Laws.{length-glyphs_of}
 use Rattle.verdict.specs.Verdict.{value_of, judge_at}
@@ -28,8 +28,8 @@ overflow_add-place c = omega (arith, (good c).0, (good c).1, length-glyphs_of c.
 pub cross_ahead-from-requires : goal.cross_ahead-from-requires
 cross_ahead-from-requires c = ((good c).1, omega (arith, (good c).0))
 
-pub forward_on-requires : goal.forward_on-requires
-forward_on-requires c = (good (goal.at.forward_on-requires c).Else-is_bad_walk).1
+pub forward_from-walked-requires : goal.forward_from-walked-requires
+forward_from-walked-requires c = (good (goal.at.forward_from-walked-requires c).Else-is_bad_walk).1
 
 pub returns : goal.returns
 unfolding forward_of
@@ -41,4 +41,4 @@ returns c =
     let seen = c.cross_ahead-from.ensures in
     let over = stretch_passed a.m (value_of a.sign []) a.syllable a.sets.now gs (a.place + 1) from seen.2 in
     rw (← c.is_bad_walk.ensures, c.if-is_bad_walk.false)
-    (c.forward_on.ensures ∙ sym (walk_past v a.len (a.place + 1) from seen.0 seen.1 over))
+    (ap Ok (c.forward_from-walked.ensures ∙ sym (walk_past v a.len (a.place + 1) from seen.0 seen.1 over)))

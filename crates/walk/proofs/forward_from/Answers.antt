@@ -4,6 +4,7 @@ use Rattle.std.proofs.Common.{ap, arith, sym, ℕ, ◌+◌, ◌∙◌, ◌≡◌
 use Rattle.glyph.specs.Glyph.{glyphs_of}
 use Rattle.verdict.specs.declared.Verdict.{Verdict}
 use Rattle.verdict.specs.Verdict.{verdict, value_of, judge_at}
+use Rattle.walk.specs.declared.Walked.TheVariants.{RanOut}
 use Rattle.walk.specs.Walk.{on_verdict, walk_from}
 use Rattle.walk.specs.Steps.{walk_on_by, walk_end}
 use Rattle.walk.proofs.forward_from.Goals as goal
@@ -29,7 +30,7 @@ module _ (c : After-judge) where
       let a = c.args in
       let told = c.judge.ensures ∙ ap (verdict a.m (value_of a.sign a.lists.now) a.syllable a.sets.now)
       c.read.ensures in
-      c.loop-p.invariant ∙ walk_on_by judge len place (omega arith) r (sym told ∙ e)
+      c.loop-p.invariant.1 ∙ walk_on_by judge len place (omega arith) r (sym told ∙ e)
 
 pub returns-in-Match : goal.returns-in-Match
 returns-in-Match c = sym (turn (goal.at.returns-in-Match c).After-judge _ c.in-Match.is)
@@ -38,9 +39,9 @@ pub returns-in-NotMatch : goal.returns-in-NotMatch
 returns-in-NotMatch c = sym (turn (goal.at.returns-in-NotMatch c).After-judge _ c.in-NotMatch.is)
 
 pub loop-p-preserved : goal.loop-p-preserved
-loop-p-preserved c = turn (goal.at.loop-p-preserved c).After-judge _ c.in-Skip.is
+loop-p-preserved c = (omega arith, turn (goal.at.loop-p-preserved c).After-judge _ c.in-Skip.is)
 
 pub returns : goal.returns
 returns c = let a = c.args in
     let v = judge_at a.m (value_of a.sign a.lists.now) a.syllable a.sets.now (glyphs_of a.row.now) in
-    sym (c.loop-p.invariant ∙ walk_end v a.len c.loop-p.p (omega arith))
+    sym (c.loop-p.invariant.1 ∙ walk_end v a.len c.loop-p.p (omega arith) ∙ ap RanOut (omega arith))
