@@ -1,7 +1,8 @@
--- The code's side: a frame as the code hands it on: its numbers in a head, its lists in three slices.
+-- The code's side: a frame as the code hands it on: its numbers in a head, its lists beside it.
 use Rattle.std.specs.Prelude.{ℕ, ◌≤◌, ◌≡◌, List, [], Option, Some, None, length}
 use Rattle.glyph.specs.Glyph.{glyphs_of}
 use Rattle.tape_frame.specs.declared.Head.{Head}
+use Rattle.tape_frame.specs.declared.Lists.{Lists}
 use Rattle.tape_frame.specs.Frame.{Frame, LineRead, a_frame, not_frame, most_values, most_glyphs}
 use Rattle.tape_frame.specs.Put.{put}
 
@@ -34,12 +35,12 @@ abbrev pub coming_of : LineRead → List ℕ
 coming_of (a_frame f) = f.coming
 coming_of not_frame = []
 
--- the answer is the reading's, and each of the three slices holds the reading's list from its front, what stands past it as it was
-pub record Decodes (r : LineRead) (answer : Option Head) (v v' d d' c c' : List ℕ) : Type 0 where
+-- the answer is the reading's, and each of the three lists holds the reading's from its front, what stands past it as it was
+pub record Decodes (r : LineRead) (answer : Option Head) (old new : Lists) : Type 0 where
   pub answers : answer ≡ decoded r
-  pub values : v' ≡ put v 0 (values_of r)
-  pub done : d' ≡ put d 0 (done_of r)
-  pub coming : c' ≡ put c 0 (coming_of r)
+  pub values : new.values ≡ put old.values 0 (values_of r)
+  pub done : new.done ≡ put old.done 0 (done_of r)
+  pub coming : new.coming ≡ put old.coming 0 (coming_of r)
 
 -- the lists of a head keep the limits
 pub record Bounded (h : Head) : Type 0 where

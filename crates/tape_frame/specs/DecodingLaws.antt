@@ -7,6 +7,7 @@ use Rattle.glyph.specs.Glyph.{words, glyphs_of, Row}
 use Rattle.glyph.specs.Laws.{length_row}
 use Rattle.verdict.specs.declared.Table.{Table}
 use Rattle.tape_frame.specs.declared.Head.{Head}
+use Rattle.tape_frame.specs.declared.Lists.{Lists}
 use Rattle.tape_frame.specs.Digits.{bytes_of}
 use Rattle.tape_frame.specs.Frame.{Frame, LineRead, a_frame, not_frame, words_at, values_at, value_count}
 use Rattle.tape_frame.specs.Frame.{done_count, coming_count, done_at, coming_at, is_whole, frame_in, frame_of}
@@ -25,9 +26,14 @@ head_bounded table b e =
     }
 
 -- no frame: nothing is stored
-pub decodes_none : (r : LineRead) (v d c : List ℕ) → r ≡ not_frame → Decodes r None v v d d c c
-decodes_none r v d c e =
-    rw e (record { answers = refl; values = sym (put_none v 0); done = sym (put_none d 0); coming = sym (put_none c 0) })
+pub decodes_none : (r : LineRead) (l : Lists) → r ≡ not_frame → Decodes r None l l
+decodes_none r l e =
+    rw e record {
+      answers = refl;
+      values = sym (put_none l.values 0);
+      done = sym (put_none l.done 0);
+      coming = sym (put_none l.coming 0);
+    }
 
 -- the lists of a frame, read as its head counts them
 module _ (table : Table) (b : List ℕ) (h : Head) (e : h ≡ head_of (frame_in table b)) where

@@ -38,6 +38,14 @@ pub struct Head {
     pub coming: usize,
 }
 
+// A frame's lists, each from the front, and behind it what stood there: how long they are says the head.
+#[derive(Clone, Copy)]
+pub struct Lists {
+    pub values: [u32; MOST_VALUES],
+    pub done: [u32; ROW],
+    pub coming: [u32; ROW],
+}
+
 // ---- numbers, big-endian; what stands past the end counts as 0. Places are far below the largest number, so that no sum wraps.
 
 fn byte_at(b: &[u8], at: usize) -> u8
@@ -50,9 +58,7 @@ fn half_at(b: &[u8], at: usize) -> u16
     requires { at ≤ 65536 }
     ensures { result ≡ half_at b.now at }
 {
-    let high = byte_at(b, at) as u16;
-    let low = byte_at(b, at + 1) as u16;
-    high * 256 + low
+    u16::from_be_bytes([byte_at(b, at), byte_at(b, at + 1)])
 }
 
 fn word_at(b: &[u8], at: usize) -> u32
