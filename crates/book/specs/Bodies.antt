@@ -1,25 +1,25 @@
 -- A body that the code finds part by part is the body that the definition reads: each part is what the definition takes, and the next begins where it
 -- ends.
 use Rattle.std.specs.Prelude.{◌≡◌, refl, Bool, true, false, cond, List, [], ◌∷◌, ℕ, ◌+◌, ◌-◌, ◌*◌, ◌<◌, eqb, leb, ltb, length, get_or, take, drop}
+use Rattle.std.specs.Prelude.{Option, Some, None}
 use Rattle.std.proofs.Common.{sym, ap, ◌∙◌, add-zero, add-one, arith, ltb-true, ltb-false, leb-true, leb-false, length-drop, drop_of_length-le}
 use Rattle.std.proofs.Common.{drop-cons, drop-drop, get_or-drop}
 use Rattle.book.specs.declared.Part.{Part}
-use Rattle.book.specs.declared.Counted.{Counted}
 use Rattle.book.specs.declared.ChainParts.{ChainParts}
 use Rattle.book.specs.declared.Entry.{Entry}
-use Rattle.book.specs.Book.{most_ids, most_input, most_side, most_records, Lookup, Kind1, Kind2, Kind3, Found, Is}
-use Rattle.book.specs.Book.{None, Split, Taken, Short, counted, and_then, whole_lookup, kind1, kind2, kind3, body_of}
-use Rattle.book.specs.Places.{part_of, chain_of, meant, counted_at, part_then, whole_at, one_at, many_at, chain_at, kind_at}
+use Rattle.book.specs.Book.{most_ids, most_input, most_side, most_records, Kind1, Kind2, Found, Is}
+use Rattle.book.specs.Book.{Split, Taken, Short, counted, and_then, whole_lookup, kind1, kind2, kind3, body_of}
+use Rattle.book.specs.Places.{part_of, lookup_by, meant, counted_at, part_then, whole_at, one_at, many_at, chain_at, kind_at}
 
 -- ---- entries after their number
 
 -- what a part found says
-abbrev split_by : List ℕ → Counted → Split
-split_by w (Counted.Is p) = Taken (part_of w p) (drop p.to w)
-split_by w Counted.Not = Short
+abbrev split_by : List ℕ → Option Part → Split
+split_by w (Some p) = Taken (part_of w p) (drop p.to w)
+split_by w None = Short
 
 both : (w : List ℕ) (p : Part) (s : Split) (b c : Bool) → s ≡ Taken (part_of w p) (drop p.to w)
-    → cond b (cond c s Short) Short ≡ split_by w (cond b (cond c (Counted.Is p) Counted.Not) Counted.Not)
+    → cond b (cond c s Short) Short ≡ split_by w (cond b (cond c (Some p) None) None)
 both w p s true true e = e
 both w p s true false e = refl
 both w p s false c e = refl
@@ -43,26 +43,25 @@ counted_by w x each most false e =
 pub counted_at_lem : (w : List ℕ) (x each most : ℕ) → counted each most (drop x w) ≡ split_by w (counted_at w x each most)
 counted_at_lem w x each most = counted_by w x each most (ltb x (length w)) refl
 
-module _ (w : List ℕ) (f : List ℕ → List ℕ → Found) (g : Part → Entry) (h : (p : Part) → f (part_of w p) (drop p.to w) ≡ meant w (g p)) where
-  then_by : (r : Counted) → and_then (split_by w r) f ≡ meant w (part_then r g)
-  then_by (Counted.Is p) = h p
-  then_by Counted.Not = refl
+module _ (w : List ℕ) (f : List ℕ → List ℕ → Found) (g : Part → Option Entry) (h : (p : Part) → f (part_of w p) (drop p.to w) ≡ meant w (g p)) where
+  then_by : (r : Option Part) → and_then (split_by w r) f ≡ meant w (part_then r g)
+  then_by (Some p) = h p
+  then_by None = refl
 
   -- what follows goes on where the part ends
   then_at : (x each most : ℕ) → and_then (counted each most (drop x w)) f ≡ meant w (part_then (counted_at w x each most) g)
   then_at x each most = ap (λ (s : Split). and_then s f) (counted_at_lem w x each most) ∙ then_by (counted_at w x each most)
 
-whole_by : (w : List ℕ) (x : ℕ) (e : Entry) (l : Lookup) (t : Bool) → leb (length w) x ≡ t → Is l ≡ meant w e
-    → whole_lookup (drop x w) l ≡ meant w (whole_at w x e)
-whole_by w x e l true t m = rw (t, drop_of_length-le w {i = x} (leb-true (length w) x t)) m
-whole_by w x e l false t m = rw (t, drop-cons w x 0 (leb-false (length w) x t))
+whole_by : (w : List ℕ) (x : ℕ) (e : Entry) (t : Bool) → leb (length w) x ≡ t → whole_lookup (drop x w) (lookup_by w e) ≡ meant w (whole_at w x e)
+whole_by w x e true t = rw (t, drop_of_length-le w {i = x} (leb-true (length w) x t))
+whole_by w x e false t = rw (t, drop-cons w x 0 (leb-false (length w) x t))
 
-whole_at_lem : (w : List ℕ) (x : ℕ) (e : Entry) (l : Lookup) → Is l ≡ meant w e → whole_lookup (drop x w) l ≡ meant w (whole_at w x e)
-whole_at_lem w x e l m = whole_by w x e l (leb (length w) x) refl m
+whole_at_lem : (w : List ℕ) (x : ℕ) (e : Entry) → whole_lookup (drop x w) (lookup_by w e) ≡ meant w (whole_at w x e)
+whole_at_lem w x e = whole_by w x e (leb (length w) x) refl
 
 -- ---- a body, by its kind
 
-pick : (w : List ℕ) (t : Bool) (x y : Found) (e f : Entry) → x ≡ meant w e → y ≡ meant w f → cond t x y ≡ meant w (cond t e f)
+pick : (w : List ℕ) (t : Bool) (x y : Found) (e f : Option Entry) → x ≡ meant w e → y ≡ meant w f → cond t x y ≡ meant w (cond t e f)
 pick w true x y e f p q = p
 pick w false x y e f p q = q
 
@@ -70,8 +69,8 @@ one_at_lem : (w : List ℕ) (props a : ℕ) → kind1 props (drop a w) ≡ meant
 unfolding one_at
 one_at_lem w props a =
     rw (length-drop a w, get_or-drop a w 0 0, get_or-drop a w 1 0, add-zero a)
-    (pick w (eqb (length w - a) 2) (Is (Kind1 props (get_or w a 0) (get_or w (a + 1) 0))) None
-    (Entry.One props (get_or w a 0) (get_or w (a + 1) 0)) Entry.Missing refl refl)
+    (pick w (eqb (length w - a) 2) (Is (Kind1 props (get_or w a 0) (get_or w (a + 1) 0))) Found.None
+    (Some (Entry.One props (get_or w a 0) (get_or w (a + 1) 0))) None refl refl)
 
 -- from a on: its first word and the words after it
 cons-at : (w : List ℕ) (a : ℕ) → ltb a (length w) ≡ true → drop a w ≡ get_or w a 0 ∷ drop (a + 1) w
@@ -87,7 +86,7 @@ many_by w props a true e =
     ∙ rw e
     (then_at w (λ ids over. whole_lookup over (Kind2 props (get_or w a 0) ids))
     (λ ids. whole_at w ids.to (Entry.Many props (get_or w a 0) ids))
-    (λ p. whole_at_lem w p.to (Entry.Many props (get_or w a 0) p) (Kind2 props (get_or w a 0) (part_of w p)) refl) (a + 1) 1 most_ids)
+    (λ p. whole_at_lem w p.to (Entry.Many props (get_or w a 0) p)) (a + 1) 1 most_ids)
 many_by w props a false e = ap (kind2 props) (nil-at w a e) ∙ rw e
 
 chain_by_lem : (w : List ℕ) (props a : ℕ) (t : Bool) → ltb a (length w) ≡ t → kind3 props (drop a w) ≡ meant w (chain_at w props a)
@@ -104,7 +103,7 @@ chain_by_lem w props a true e =
     then_at w _ _
     (λ records.
     let c : ChainParts = record { first = get_or w a 0; backtrack = back; input = input; lookahead = ahead; records = records } in
-    whole_at_lem w records.to (Entry.Chain props c) (Kind3 props (chain_of w c)) refl)
+    whole_at_lem w records.to (Entry.Chain props c))
     ahead.to 2 most_records)
     input.to 1 most_side)
     back.to 1 most_input)

@@ -1,13 +1,14 @@
 -- What `find_in` answers by a book's index is that lookup of the definition: of a book that reads, the walk's k-th start is where lookup k begins.
 use Rattle.std.specs.Prelude.{◌≡◌, refl, Bool, true, false, cond, List, [], ◌∷◌, ℕ, zero, suc, ◌+◌, ◌-◌, ◌≤◌, ◌<◌, leb, ltb, length, get_or, drop}
+use Rattle.std.specs.Prelude.{Option, Some, None}
 use Rattle.std.proofs.Common.{sym, ap, ◌∙◌, ⊎_elim, eq-or-lt_of_le, arith, lt-ltb, leb-true, ltb-true, ltb-false, length-drop, length-set}
 use Rattle.std.proofs.Common.{drop_of_length-le, drop-cons, get_or-set_same, get_or-set_other}
 use Rattle.std.proofs.lemmas.List.{length-replicate}
 use Rattle.book.specs.declared.Entry.{Entry}
-use Rattle.book.specs.Book.{most_words, most_lookups, Lookup, Kind1, Is, None, Reading}
+use Rattle.book.specs.Book.{most_words, most_lookups, Lookup, Kind1, Found, Is, Reading}
 use Rattle.book.specs.Book.{Reads, Unreadable, read_first, read_lookups, read_book, lookup_at}
-use Rattle.book.specs.Places.{meant, entry_at, missing, size_at, start_of, start_slots, indexed, index_of, found_in, found_at}
-use Rattle.book.specs.Inside.{EntryInside}
+use Rattle.book.specs.Places.{meant, entry_at, step_at, start_of, start_slots, indexed, index_of, found_in, found_at}
+use Rattle.book.specs.Inside.{FoundInside}
 use Rattle.book.specs.Readings.{entry_inside}
 use Rattle.book.specs.Starts.{Next, next, no_read, stuck, reads_nil, reads_over}
 
@@ -37,23 +38,23 @@ not_nil l ls e = let z : ◌≡◌ {A = ℕ} 0 1 = cc in omega arith
 
 record Off (ws : List ℕ) (m at : ℕ) (l : Lookup) (ls : List Lookup) : Type 0 where
   pub is : meant ws (entry_at ws at) ≡ Is l
-  pub rest : read_lookups m (drop (at + size_at ws at) ws) ≡ Reads ls
-  pub within : at + size_at ws at ≤ length ws
+  pub rest : read_lookups m (drop (at + step_at ws at) ws) ≡ Reads ls
+  pub within : at + step_at ws at ≤ length ws
 
 off_by : (ws : List ℕ) (m at : ℕ) (x : Next m ws at) (l : Lookup) (ls : List Lookup) (r : Reading)
-    → read_lookups m (drop (at + size_at ws at) ws) ≡ r → read_first x.it r ≡ Reads (l ∷ ls) → Off ws m at l ls
+    → read_lookups m (drop (at + step_at ws at) ws) ≡ r → read_first x.it r ≡ Reads (l ∷ ls) → Off ws m at l ls
 off_by ws m at x l ls (Reads ks) e f =
     let p : x.it ≡ l = cc in
     let q : ks ≡ ls = cc in
     record { is = x.is ∙ ap Is p; rest = e ∙ ap Reads q; within = x.within }
 off_by ws m at x l ls Unreadable e f = absurd (no_read (l ∷ ls) f)
 
-off_at : (ws : List ℕ) (m at : ℕ) (l : Lookup) (ls : List Lookup) (t : Bool) → at < length ws → missing (entry_at ws at) ≡ t
+off_at : (ws : List ℕ) (m at : ℕ) (l : Lookup) (ls : List Lookup) (o : Option Entry) → at < length ws → entry_at ws at ≡ o
     → read_lookups (suc m) (drop at ws) ≡ Reads (l ∷ ls) → Off ws m at l ls
-off_at ws m at l ls true h e f = absurd (no_read (l ∷ ls) (sym (stuck ws at h m e) ∙ f))
-off_at ws m at l ls false h e f =
-    let x = next ws at h m e in
-    off_by ws m at x l ls (read_lookups m (drop (at + size_at ws at) ws)) refl (sym x.reads ∙ f)
+off_at ws m at l ls None h e f = absurd (no_read (l ∷ ls) (sym (stuck ws at h m e) ∙ f))
+off_at ws m at l ls (Some y) h e f =
+    let x = next ws at h m y e in
+    off_by ws m at x l ls (read_lookups m (drop (at + step_at ws at) ws)) refl (sym x.reads ∙ f)
 
 off : (ws : List ℕ) (n at : ℕ) (l : Lookup) (ls : List Lookup) (t : Bool) → ltb at (length ws) ≡ t
     → read_lookups n (drop at ws) ≡ Reads (l ∷ ls) → Off ws (n - 1) at l ls
@@ -63,7 +64,7 @@ off ws zero at l ls true e f =
     absurd (no_read (l ∷ ls) (sym (reads_over (drop at ws) k) ∙ f))
 off ws (suc n) at l ls true e f =
     let p : suc n - 1 ≡ n = omega arith in
-    rw p (off_at ws n at l ls (missing (entry_at ws at)) (ltb-true at (length ws) e) refl f)
+    rw p (off_at ws n at l ls (entry_at ws at) (ltb-true at (length ws) e) refl f)
 off ws n at l ls false e f =
     absurd (not_nil l ls (sym (reads_nil n) ∙ ap (read_lookups n) (sym (drop_of_length-le ws {i = at} (ltb-false at (length ws) e))) ∙ f))
 
@@ -99,7 +100,7 @@ lookup_is k [] h = let z : ⊥ = omega arith in absurd z
 lookup_is zero (l ∷ ls) h = refl
 lookup_is (suc k) (l ∷ ls) h = lookup_is k ls (omega arith)
 
-lookup_none : (k : ℕ) (ls : List Lookup) → length ls ≤ k → lookup_at k ls ≡ None
+lookup_none : (k : ℕ) (ls : List Lookup) → length ls ≤ k → lookup_at k ls ≡ Found.None
 unfolding lookup_at
 lookup_none k [] h = refl
 lookup_none zero (l ∷ ls) h = let z : ⊥ = omega arith in absurd z
@@ -145,17 +146,17 @@ found_by ws ls k true e b =
     rw (e, lt-ltb k most_lookups (omega arith), slot_is_lem (length ls) ws k f h) (start_is ws most_lookups ls b.reads k h ∙ sym (lookup_is k ls h))
 found_by ws ls k false e b = rw e (sym (lookup_none k ls (ltb-false k (length ls) e)))
 
--- the entry that `find_in` answers by the book's index is lookup k, and missing where the book has none
+-- the entry that `find_in` answers by the book's index is lookup k, and none where the book has none
 pub found_is : (ws : List ℕ) (ls : List Lookup) (k : ℕ) → read_book ws ≡ Reads ls → meant ws (found_at ws (index_of ws) k) ≡ lookup_at k ls
 unfolding index_of
 found_is ws ls k e = rw e (found_by ws ls k (ltb k (length ls)) refl (book_reads ws ls e))
 
-inside_by : (ws : List ℕ) (t b : Bool) (at : ℕ) → EntryInside (length ws) (cond t (cond b (entry_at ws at) Entry.Missing) Entry.Missing)
+inside_by : (ws : List ℕ) (t b : Bool) (at : ℕ) → FoundInside (length ws) (cond t (cond b (entry_at ws at) None) None)
 inside_by ws true true at = entry_inside ws at
 inside_by ws true false at = tt
 inside_by ws false b at = tt
 
 -- its parts lie within the words and keep the limits, by any table of starts
-pub found_inside : (ws starts : List ℕ) (count k : ℕ) → EntryInside (length ws) (found_in ws starts count k)
+pub found_inside : (ws starts : List ℕ) (count k : ℕ) → FoundInside (length ws) (found_in ws starts count k)
 unfolding found_in
 found_inside ws starts count k = inside_by ws (ltb k count) (ltb k most_lookups) (get_or starts k 0)

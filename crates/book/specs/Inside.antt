@@ -1,10 +1,10 @@
 -- The parts that the code finds lie within the words and keep the limits, so that the words up to their end show the same.
 use Rattle.std.specs.Prelude.{◌≡◌, refl, Bool, true, false, cond, List, [], ◌∷◌, ℕ, zero, suc, ◌+◌, ◌-◌, ◌*◌, ◌≤◌, eqb, leb, ltb, length, take, drop}
+use Rattle.std.specs.Prelude.{Option, Some, None, IfSome}
 use Rattle.std.proofs.Common.{sym, ap, ◌∙◌, mul-le-mul_left, zero-add, suc-add, arith, ltb-true, leb-true, take-take}
 use Rattle.std.proofs.Math.ListN.{get_or}
 use Rattle.std.proofs.Math.Seq.{take-nil}
 use Rattle.book.specs.declared.Part.{Part}
-use Rattle.book.specs.declared.Counted.{Counted}
 use Rattle.book.specs.declared.ChainParts.{ChainParts}
 use Rattle.book.specs.declared.Entry.{Entry}
 use Rattle.book.specs.Book.{most_ids, most_input, most_side, most_records}
@@ -28,15 +28,16 @@ abbrev pub EntryInside : ℕ → Entry → Type 0
 EntryInside n (Entry.One props from to) = Unit {0}
 EntryInside n (Entry.Many props from ids) = PartInside n most_ids ids
 EntryInside n (Entry.Chain props parts) = GoodChain n parts
-EntryInside n Entry.Missing = Unit {0}
 
-abbrev Held : ℕ → ℕ → Counted → Type 0
-Held n most (Counted.Is p) = PartInside n most p
-Held n most Counted.Not = Unit {0}
+abbrev pub FoundInside : ℕ → Option Entry → Type 0
+FoundInside n o = IfSome o (EntryInside n)
+
+abbrev Held : ℕ → ℕ → Option Part → Type 0
+Held n most o = IfSome o (PartInside n most)
 
 held_by : (n x v each most : ℕ) (t b c : Bool) → ltb x n ≡ t → leb v most ≡ b → leb (each * v) (n - (x + 1)) ≡ c
     → Held n (each * most) (cond t
-    (cond b (cond c (Counted.Is (record { from = x + 1; to = x + 1 + each * v })) Counted.Not) Counted.Not) Counted.Not)
+    (cond b (cond c (Some (record { from = x + 1; to = x + 1 + each * v })) None) None) None)
 held_by n x v each most true true true e f g =
     let h = ltb-true x n e in
     let k = leb-true (each * v) (n - (x + 1)) g in
@@ -52,12 +53,12 @@ held w x each most =
     held_by (length w) x (get_or w x 0) each most (ltb x (length w)) (leb (get_or w x 0) most)
     (leb (each * get_or w x 0) (length w - (x + 1))) refl refl refl
 
-good_then : (n most : ℕ) (g : Part → Entry) → ((p : Part) → PartInside n most p → EntryInside n (g p)) → (r : Counted) → Held n most r
-    → EntryInside n (part_then r g)
-good_then n most g h (Counted.Is p) i = h p i
-good_then n most g h Counted.Not i = tt
+good_then : (n most : ℕ) (g : Part → Option Entry) → ((p : Part) → PartInside n most p → FoundInside n (g p)) → (r : Option Part) → Held n most r
+    → FoundInside n (part_then r g)
+good_then n most g h (Some p) i = h p i
+good_then n most g h None i = tt
 
-good_cond : (n : ℕ) (t : Bool) (e f : Entry) → EntryInside n e → EntryInside n f → EntryInside n (cond t e f)
+good_cond : (n : ℕ) (t : Bool) (e f : Option Entry) → FoundInside n e → FoundInside n f → FoundInside n (cond t e f)
 good_cond n true e f p q = p
 good_cond n false e f p q = q
 
@@ -65,22 +66,22 @@ module _ (w : List ℕ) where
   abbrev n : ℕ
   n = length w
 
-  good_one : (props a : ℕ) → EntryInside n (one_at w props a)
+  good_one : (props a : ℕ) → FoundInside n (one_at w props a)
   unfolding one_at
-  good_one props a = good_cond n (eqb (n - a) 2) (Entry.One props (get_or w a 0) (get_or w (a + 1) 0)) Entry.Missing tt tt
+  good_one props a = good_cond n (eqb (n - a) 2) (Some (Entry.One props (get_or w a 0) (get_or w (a + 1) 0))) None tt tt
 
-  good_many : (props a : ℕ) → EntryInside n (many_at w props a)
+  good_many : (props a : ℕ) → FoundInside n (many_at w props a)
   unfolding many_at
   good_many props a =
-      good_cond n (ltb a n) _ Entry.Missing
-      (good_then n most_ids _ (λ ids i. good_cond n (leb n ids.to) (Entry.Many props (get_or w a 0) ids) Entry.Missing i tt)
+      good_cond n (ltb a n) _ None
+      (good_then n most_ids _ (λ ids i. good_cond n (leb n ids.to) (Some (Entry.Many props (get_or w a 0) ids)) None i tt)
       (counted_at w (a + 1) 1 most_ids) (held w (a + 1) 1 most_ids))
       tt
 
-  good_chain : (props a : ℕ) → EntryInside n (chain_at w props a)
+  good_chain : (props a : ℕ) → FoundInside n (chain_at w props a)
   unfolding chain_at
   good_chain props a =
-      good_cond n (ltb a n) _ Entry.Missing
+      good_cond n (ltb a n) _ None
       (good_then n most_side _
       (λ back b.
       good_then n most_input _
@@ -90,33 +91,33 @@ module _ (w : List ℕ) where
       good_then n (2 * most_records) _
       (λ records r.
       good_cond n (leb n records.to)
-      (Entry.Chain props (record { first = get_or w a 0; backtrack = back; input = input; lookahead = ahead; records = records }))
-      Entry.Missing (record { backtrack = b; input = i; lookahead = l; records = r }) tt)
+      (Some (Entry.Chain props (record { first = get_or w a 0; backtrack = back; input = input; lookahead = ahead; records = records })))
+      None (record { backtrack = b; input = i; lookahead = l; records = r }) tt)
       (counted_at w ahead.to 2 most_records) (held w ahead.to 2 most_records))
       (counted_at w input.to 1 most_side) (held w input.to 1 most_side))
       (counted_at w back.to 1 most_input) (held w back.to 1 most_input))
       (counted_at w (a + 1) 1 most_side) (held w (a + 1) 1 most_side))
       tt
 
-  pub good_kind : (kind props a : ℕ) → EntryInside n (kind_at w kind props a)
+  pub good_kind : (kind props a : ℕ) → FoundInside n (kind_at w kind props a)
   unfolding kind_at
   good_kind kind props a =
       good_cond n (eqb kind 1) _ _ (good_one props a)
-      (good_cond n (eqb kind 2) _ _ (good_many props a) (good_cond n (eqb kind 3) _ Entry.Missing (good_chain props a) tt))
+      (good_cond n (eqb kind 2) _ _ (good_many props a) (good_cond n (eqb kind 3) _ None (good_chain props a) tt))
 
 longer : (k n most : ℕ) (p : Part) → k ≤ n → PartInside k most p → PartInside n most p
 longer k n most p h i = record { ordered = i.ordered; within = omega (arith, i.within); few = i.few }
 
-pub good_longer : (k n : ℕ) (e : Entry) → k ≤ n → EntryInside k e → EntryInside n e
-good_longer k n (Entry.One props from to) h g = tt
-good_longer k n (Entry.Many props from ids) h g = longer k n most_ids ids h g
-good_longer k n (Entry.Chain props c) h g = record {
+pub good_longer : (k n : ℕ) (e : Option Entry) → k ≤ n → FoundInside k e → FoundInside n e
+good_longer k n (Some (Entry.One props from to)) h g = tt
+good_longer k n (Some (Entry.Many props from ids)) h g = longer k n most_ids ids h g
+good_longer k n (Some (Entry.Chain props c)) h g = record {
   backtrack = longer k n most_side c.backtrack h g.backtrack;
   input = longer k n most_input c.input h g.input;
   lookahead = longer k n most_side c.lookahead h g.lookahead;
   records = longer k n (2 * most_records) c.records h g.records;
 }
-good_longer k n Entry.Missing h g = tt
+good_longer k n None h g = tt
 
 -- ---- the words up to the end of a part show the part
 
@@ -130,14 +131,14 @@ part_front ws k most p i =
     let e : p.from + (p.to - p.from) ≡ p.to = omega (arith, i.ordered) in
     rw (slid p.from (p.to - p.from) (take k ws), slid p.from (p.to - p.from) ws, e, take-take p.to k ws i.within)
 
-pub meant_front : (ws : List ℕ) (k : ℕ) (e : Entry) → EntryInside k e → meant (take k ws) e ≡ meant ws e
-meant_front ws k (Entry.One props from to) g = refl
-meant_front ws k (Entry.Many props from ids) g = rw (part_front ws k most_ids ids g)
-meant_front ws k (Entry.Chain props c) g =
+pub meant_front : (ws : List ℕ) (k : ℕ) (e : Option Entry) → FoundInside k e → meant (take k ws) e ≡ meant ws e
+meant_front ws k (Some (Entry.One props from to)) g = refl
+meant_front ws k (Some (Entry.Many props from ids)) g = rw (part_front ws k most_ids ids g)
+meant_front ws k (Some (Entry.Chain props c)) g =
     rw (
       part_front ws k most_side c.backtrack g.backtrack,
       part_front ws k most_input c.input g.input,
       part_front ws k most_side c.lookahead g.lookahead,
       part_front ws k (2 * most_records) c.records g.records,
     )
-meant_front ws k Entry.Missing g = refl
+meant_front ws k None g = refl

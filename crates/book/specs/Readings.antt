@@ -1,16 +1,16 @@
 -- Where the code finds a lookup is where the definition reads it: an entry shows the lookup that begins at its place.
-use Rattle.std.specs.Prelude.{◌≡◌, Bool, true, false, cond, List, ℕ, ◌+◌, ◌-◌, ◌*◌, ◌≤◌, leb, get_or, take, drop}
+use Rattle.std.specs.Prelude.{◌≡◌, Bool, true, false, cond, List, ℕ, ◌+◌, ◌-◌, ◌*◌, ◌≤◌, leb, get_or, take, drop, Option, None, is_some}
 use Rattle.std.proofs.Math.Path.{refl}
-use Rattle.std.proofs.Common.{ap, ◌∙◌, true≢false, leb-true, length-take-le}
+use Rattle.std.proofs.Common.{sym, ap, ◌∙◌, true≢false, leb-true, length-take-le}
 use Rattle.std.proofs.Math.Nat.{add-zero}
 use native.Mathlib.Omega.{arith}
 use Rattle.std.proofs.Math.ListN.{length, length-drop}
 use Rattle.std.proofs.Math.Seq.{drop-drop, get_or-drop}
 use Rattle.book.specs.declared.Entry.{Entry}
 use Rattle.book.specs.Book.{Found, body_of, Nothing, followed, first_lookup_of}
-use Rattle.book.specs.Places.{meant, kind_at, up_to, entry_at, missing}
+use Rattle.book.specs.Places.{meant, kind_at, up_to, entry_at}
 use Rattle.book.specs.Bodies.{kind_at_lem}
-use Rattle.book.specs.Inside.{EntryInside, good_kind, good_longer, slid, meant_front}
+use Rattle.book.specs.Inside.{FoundInside, good_kind, good_longer, slid, meant_front}
 
 -- ---- a lookup that begins at a place
 
@@ -25,32 +25,32 @@ module _ (ws : List ℕ) (at : ℕ) where
       let k = leb-true size (length ws - (at + 4)) f in
       omega arith
 
-  abbrev kinded : Entry
+  abbrev kinded : Option Entry
   kinded = kind_at (up_to ws at) (get_or ws at 0) (get_or ws (at + 1) 0 + 65536 * get_or ws (at + 2) 0) (at + 4)
 
-  front : at + 4 + size ≤ length ws → EntryInside (at + 4 + size) kinded
+  front : at + 4 + size ≤ length ws → FoundInside (at + 4 + size) kinded
   front h = rw (length-take-le (at + 4 + size) ws h) at
       (good_kind (up_to ws at) (get_or ws at 0) (get_or ws (at + 1) 0 + 65536 * get_or ws (at + 2) 0) (at + 4))
 
   good_by : (t b : Bool) → leb 4 (length ws - at) ≡ t → leb size (length ws - (at + 4)) ≡ b
-      → EntryInside (length ws) (cond t (cond b kinded Entry.Missing) Entry.Missing)
+      → FoundInside (length ws) (cond t (cond b kinded None) None)
   good_by true true p q = good_longer (at + 4 + size) (length ws) kinded (up_to_lem p q) (front (up_to_lem p q))
   good_by true false p q = tt
   good_by false b p q = tt
 
   -- the parts of an entry lie within the words
-  pub entry_inside : EntryInside (length ws) (entry_at ws at)
+  pub entry_inside : FoundInside (length ws) (entry_at ws at)
   unfolding entry_at
   entry_inside = good_by (leb 4 (length ws - at)) (leb size (length ws - (at + 4))) refl refl
 
   fits_by : (t b : Bool) → leb 4 (length ws - at) ≡ t → leb size (length ws - (at + 4)) ≡ b
-      → missing (cond t (cond b kinded Entry.Missing) Entry.Missing) ≡ false → at + 4 + size ≤ length ws
+      → is_some (cond t (cond b kinded None) None) ≡ true → at + 4 + size ≤ length ws
   fits_by true true p q m = up_to_lem p q
-  fits_by true false p q m = absurd (true≢false m)
-  fits_by false b p q m = absurd (true≢false m)
+  fits_by true false p q m = absurd (true≢false (sym m))
+  fits_by false b p q m = absurd (true≢false (sym m))
 
   -- a lookup's head and body lie within them
-  pub entry_fits : missing (entry_at ws at) ≡ false → at + 4 + size ≤ length ws
+  pub entry_fits : is_some (entry_at ws at) ≡ true → at + 4 + size ≤ length ws
   unfolding entry_at
   entry_fits m = fits_by (leb 4 (length ws - at)) (leb size (length ws - (at + 4))) refl refl m
 
@@ -67,7 +67,7 @@ module _ (ws : List ℕ) (at : ℕ) where
   rest = drop (at + 4 + size) ws
 
   first_by : (t b : Bool) → leb 4 (length ws - at) ≡ t → leb size (length ws - (at + 4)) ≡ b
-      → cond t (cond b (followed rest body) Nothing) Nothing ≡ followed rest (meant ws (cond t (cond b kinded Entry.Missing) Entry.Missing))
+      → cond t (cond b (followed rest body) Nothing) Nothing ≡ followed rest (meant ws (cond t (cond b kinded None) None))
   first_by true true p q = ap (followed rest) (body_is (up_to_lem p q))
   first_by true false p q = refl
   first_by false b p q = refl

@@ -1,18 +1,19 @@
 -- A walk over a book, lookup by lookup: what is read before a place, and what is left from it on. Where a book reads, the walk's k-th start is where
 -- lookup k begins.
-use Rattle.std.specs.Prelude.{◌≡◌, Bool, true, false, List, [], ◌∷◌, ◌++◌, length, drop, set}
+use Rattle.std.specs.Prelude.{◌≡◌, List, [], ◌∷◌, ◌++◌, length, drop, set}
+use Rattle.std.specs.Prelude.{Option, Some, None, is_some, unwrap_or}
 use Rattle.std.proofs.Math.Path.{refl, ap}
-use Rattle.std.proofs.Common.{sym, ◌∙◌, true≢false, add-one, le-leb, length-drop, drop_of_length-le}
+use Rattle.std.proofs.Common.{◌∙◌, add-one, le-leb, length-drop, drop_of_length-le}
 use Prim.Native.Nat.{ℕ, zero, suc, ◌+◌, ◌-◌, ◌≤◌, ◌<◌}
 use native.Mathlib.Omega.{arith}
 use Rattle.std.proofs.lemmas.Bool.{lt-leb}
 use Rattle.std.proofs.Math.ListN.{get_or, length-append}
 use Rattle.book.specs.declared.Entry.{Entry}
 use Rattle.book.specs.declared.Index.{Index}
-use Rattle.book.specs.Book.{most_words, most_lookups, Lookup, Kind1, Kind2, Kind3, Found, Is, None, First}
+use Rattle.book.specs.Book.{most_words, most_lookups, Lookup, Is, First}
 use Rattle.book.specs.Book.{followed, first_lookup_of, Reading, Reads, Unreadable, read_first, read_on, read_lookups, read_book, is_read}
 use Rattle.bits.specs.Bits.{zeros}
-use Rattle.book.specs.Places.{part_of, chain_of, meant, entry_at, missing, size_at, start_of, start_slots, no_index, indexed, index_of}
+use Rattle.book.specs.Places.{lookup_by, meant, entry_at, size_at, step_at, start_of, start_slots, indexed, index_of}
 use Rattle.book.specs.Readings.{first_at, entry_fits}
 
 -- a book that doesn't read has no lookups
@@ -36,29 +37,12 @@ unfolding read_lookups
 reads_cons n [] h = let z : ⊥ = omega arith in absurd z
 reads_cons n (x ∷ v) h = refl
 
--- the lookup that an entry shows
-record Shown (ws : List ℕ) (e : Entry) : Type 0 where
-  pub it : Lookup
-  pub is : meant ws e ≡ Is it
-
-shown : (ws : List ℕ) (e : Entry) → missing e ≡ false → Shown ws e
-shown ws (Entry.One props from to) m = record { it = Kind1 props from to; is = refl }
-shown ws (Entry.Many props from ids) m = record { it = Kind2 props from (part_of ws ids); is = refl }
-shown ws (Entry.Chain props parts) m = record { it = Kind3 props (chain_of ws parts); is = refl }
-shown ws Entry.Missing m = absurd (true≢false m)
-
-hidden : (ws : List ℕ) (e : Entry) → missing e ≡ true → meant ws e ≡ None
-hidden ws (Entry.One props from to) m = absurd (true≢false (sym m))
-hidden ws (Entry.Many props from ids) m = absurd (true≢false (sym m))
-hidden ws (Entry.Chain props parts) m = absurd (true≢false (sym m))
-hidden ws Entry.Missing m = refl
-
 -- a lookup read, and the words after it
 pub record Next (n : ℕ) (ws : List ℕ) (at : ℕ) : Type 0 where
   pub it : Lookup
   pub is : meant ws (entry_at ws at) ≡ Is it
-  pub reads : read_lookups (suc n) (drop at ws) ≡ read_first it (read_lookups n (drop (at + size_at ws at) ws))
-  pub within : at + size_at ws at ≤ length ws
+  pub reads : read_lookups (suc n) (drop at ws) ≡ read_first it (read_lookups n (drop (at + step_at ws at) ws))
+  pub within : at + step_at ws at ≤ length ws
 
 module _ (ws : List ℕ) (at : ℕ) (h : at < length ws) where
   abbrev past : List ℕ
@@ -69,38 +53,37 @@ module _ (ws : List ℕ) (at : ℕ) (h : at < length ws) where
       let l : 0 < length (drop at ws) = simp length-drop (omega arith) in
       reads_cons n (drop at ws) l ∙ ap (λ (f : First). read_on f (λ rest. read_lookups n rest)) (first_at ws at)
 
-  pub stuck : (n : ℕ) → missing (entry_at ws at) ≡ true → read_lookups (suc n) (drop at ws) ≡ Unreadable
-  stuck n m = on n ∙ ap (λ (f : Found). read_on (followed past f) (λ rest. read_lookups n rest)) (hidden ws (entry_at ws at) m)
+  pub stuck : (n : ℕ) → entry_at ws at ≡ None → read_lookups (suc n) (drop at ws) ≡ Unreadable
+  stuck n m = on n ∙ rw m
 
-  pub next : (n : ℕ) → missing (entry_at ws at) ≡ false → Next n ws at
+  pub next : (n : ℕ) (e : Entry) → entry_at ws at ≡ Some e → Next n ws at
   unfolding size_at
-  next n m =
-      let s = shown ws (entry_at ws at) m in
-      let w = entry_fits ws at m in
-      let e : at + (4 + get_or ws (at + 3) 0) ≡ at + 4 + get_or ws (at + 3) 0 = omega arith in
-      record {
-        it = s.it;
-        is = s.is;
-        reads = rw (m, e) (on n ∙ ap (λ (f : Found). read_on (followed past f) (λ rest. read_lookups n rest)) s.is);
-        within = rw (m, e) w;
-      }
+  next n e m =
+      let w = entry_fits ws at (ap is_some m) in
+      let p : at + (4 + get_or ws (at + 3) 0) ≡ at + 4 + get_or ws (at + 3) 0 = omega arith in
+      record { it = lookup_by ws e; is = rw m; reads = on n ∙ rw (m, p); within = rw (m, p) w }
 
-size_by : (ws : List ℕ) (at : ℕ) (t : Bool) → missing (entry_at ws at) ≡ t → size_at ws at ≡ 0 → t ≡ true
+size_by : (ws : List ℕ) (at : ℕ) (o : Option Entry) → entry_at ws at ≡ o → size_at ws at ≡ None → o ≡ None
 unfolding size_at
-size_by ws at true m e = refl
-size_by ws at false m e = let z : ⊥ = omega (arith, rw m at e) in absurd z
+size_by ws at None m e = refl
+size_by ws at (Some x) m e = let z : ◌≡◌ {A = ℕ} 0 1 = cc (rw m at e) in absurd (omega arith)
 
 -- the code's test
-pub size_none : (ws : List ℕ) (at : ℕ) → size_at ws at ≡ 0 → missing (entry_at ws at) ≡ true
-size_none ws at e = size_by ws at (missing (entry_at ws at)) refl e
+pub size_none : (ws : List ℕ) (at : ℕ) → size_at ws at ≡ None → entry_at ws at ≡ None
+size_none ws at e = size_by ws at (entry_at ws at) refl e
 
-some_by : (ws : List ℕ) (at : ℕ) (t : Bool) → missing (entry_at ws at) ≡ t → (size_at ws at ≡ 0 → ⊥) → t ≡ false
+pub record Sized (ws : List ℕ) (at s : ℕ) (o : Option Entry) : Type 0 where
+  pub it : Entry
+  pub is : o ≡ Some it
+  pub on : step_at ws at ≡ s
+
+some_by : (ws : List ℕ) (at s : ℕ) (o : Option Entry) → entry_at ws at ≡ o → size_at ws at ≡ Some s → Sized ws at s o
 unfolding size_at
-some_by ws at true m e = absurd (e (rw m))
-some_by ws at false m e = refl
+some_by ws at s None m e = let z : ◌≡◌ {A = ℕ} 0 1 = cc (rw m at e) in absurd (omega arith)
+some_by ws at s (Some x) m e = record { it = x; is = refl; on = ap (λ (z : Option ℕ). unwrap_or z 0) e }
 
-pub size_some : (ws : List ℕ) (at : ℕ) → (size_at ws at ≡ 0 → ⊥) → missing (entry_at ws at) ≡ false
-size_some ws at e = some_by ws at (missing (entry_at ws at)) refl e
+pub size_some : (ws : List ℕ) (at s : ℕ) → size_at ws at ≡ Some s → Sized ws at s (entry_at ws at)
+size_some ws at s e = some_by ws at s (entry_at ws at) refl e
 
 -- ---- the walk
 
@@ -134,20 +117,21 @@ module _ (ws : List ℕ) where
   going_none = record { read = []; many = refl; place = refl; within = omega arith; rest = refl }
 
   module _ (n at : ℕ) (g : ReadSoFar ws n at) where
-    pub going_more : at < length ws → n < most_lookups → (size_at ws at ≡ 0 → ⊥) → ReadSoFar ws (n + 1) (at + size_at ws at)
+    pub going_more : at < length ws → n < most_lookups → (size : ℕ) → size_at ws at ≡ Some size → ReadSoFar ws (n + 1) (at + size)
     unfolding start_of
-    going_more h k s =
-        let x = next ws at h (most_lookups - (n + 1)) (size_some ws at s) in
+    going_more h k size s =
+        let f = size_some ws at size s in
+        let x = next ws at h (most_lookups - (n + 1)) f.it f.is in
         let e : most_lookups - n ≡ suc (most_lookups - (n + 1)) = omega arith in
         record {
           read = g.read ++ x.it ∷ [];
           many = simp length-append (omega (arith, g.many));
-          place = rw (add-one n, ← g.place);
-          within = x.within;
-          rest = g.rest ∙ rw (e, x.reads) (after_one g.read x.it (read_lookups (most_lookups - (n + 1)) (drop (at + size_at ws at) ws)));
+          place = rw (add-one n, ← g.place, f.on);
+          within = rw f.on at x.within;
+          rest = g.rest ∙ rw (e, x.reads, f.on) (after_one g.read x.it (read_lookups (most_lookups - (n + 1)) (drop (at + size) ws)));
         }
 
-    pub going_stuck : at < length ws → n < most_lookups → size_at ws at ≡ 0 → read_lookups most_lookups ws ≡ Unreadable
+    pub going_stuck : at < length ws → n < most_lookups → size_at ws at ≡ None → read_lookups most_lookups ws ≡ Unreadable
     going_stuck h k s =
         let e : most_lookups - n ≡ suc (most_lookups - (n + 1)) = omega arith in
         g.rest ∙ rw (e, stuck ws at h (most_lookups - (n + 1)) (size_none ws at s)) (after_stuck g.read)
@@ -165,22 +149,22 @@ module _ (ws : List ℕ) where
 -- ---- the index
 
 module _ (ws : List ℕ) where
-  pub index_long : most_words < length ws → index_of ws ≡ no_index
+  pub index_long : most_words < length ws → index_of ws ≡ None
   unfolding index_of read_book
   index_long h = rw (lt-leb (length ws) most_words h)
 
-  pub index_none : length ws ≤ most_words → read_lookups most_lookups ws ≡ Unreadable → index_of ws ≡ no_index
+  pub index_none : length ws ≤ most_words → read_lookups most_lookups ws ≡ Unreadable → index_of ws ≡ None
   unfolding index_of read_book
   index_none h e = rw (le-leb (length ws) most_words h, e)
 
   pub index_done : length ws ≤ most_words → (n at : ℕ) (g : ReadSoFar ws n at) → length ws ≤ at
-      → index_of ws ≡ record { reads = true; count = n; starts = start_slots n ws }
+      → index_of ws ≡ Some (record { count = n; starts = start_slots n ws })
   unfolding index_of read_book
   index_done h n at g l =
       rw (le-leb (length ws) most_words h, going_done ws n at g l) (ap (λ (k : ℕ). index_for k) g.many)
     where
-      index_for : ℕ → Index
-      index_for k = record { reads = true; count = k; starts = start_slots k ws }
+      index_for : ℕ → Option Index
+      index_for k = Some (record { count = k; starts = start_slots k ws })
 
   pub slots_none : zeros most_lookups ≡ start_slots 0 ws
   unfolding start_slots
@@ -190,10 +174,10 @@ module _ (ws : List ℕ) where
   unfolding start_slots
   slots_more n at e = rw (add-one n, e)
 
-  reads_by : (r : Reading) → (indexed ws r).reads ≡ is_read r
+  reads_by : (r : Reading) → is_some (indexed ws r) ≡ is_read r
   reads_by (Reads ls) = refl
   reads_by Unreadable = refl
 
-  pub index_reads : (index_of ws).reads ≡ is_read (read_book ws)
+  pub index_reads : is_some (index_of ws) ≡ is_read (read_book ws)
   unfolding index_of
   index_reads = reads_by (read_book ws)
