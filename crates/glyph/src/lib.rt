@@ -1,5 +1,5 @@
 // A row is a lent slice of words, WORDS of them a glyph. Only this crate knows where a glyph's words stand.
-#![tactic(auto)]
+#![tactic(auto, using(crate::proofs::Rows::row_lengths))]
 
 ghost use Rattle.std.specs.Prelude.{◌≡◌, ◌+◌, ◌≤◌, ◌<◌, length, get_or, set, take, drop, replicate};
 ghost use Rattle.std.proofs.Math.Seq.{paste};
@@ -35,6 +35,7 @@ pub fn count(row: &[u32]) -> usize
 }
 
 // A row that isn't whole glyphs, or has too many: refusal 1.
+#[tactic(auto, unfolding(crate::specs::Glyph::limit, crate::specs::Glyph::ill_shaped))]
 pub fn is_ill_shaped(row: &[u32]) -> bool
     ensures { result ≡ ill_shaped row.now }
 {
@@ -108,11 +109,9 @@ pub fn in_set(sets: &[u16], set: u32, id: u32) -> bool
 {
     let pairs = sets.len() / 2;
     let mut hit = false;
-    let mut k = 0;
-    while k < pairs {
+    for k in 0..pairs {
         let i = 2 * k;
-        hit = hit | ((sets[i] as u32 == set) & (sets[i + 1] as u32 == id));
-        k += 1;
+        hit |= (sets[i] as u32 == set) & (sets[i + 1] as u32 == id);
     }
     hit
 }
@@ -125,11 +124,7 @@ pub fn copy(to: &mut [u32], j: usize, from: &[u32], i: usize, n: usize)
     let x = WORDS * j;
     let y = WORDS * i;
     let end = WORDS * n;
-    let mut k = 0;
-    while k < end {
-        to[x + k] = from[y + k];
-        k += 1;
-    }
+    to[x..x + end].copy_from_slice(&from[y..y + end]);
 }
 
 // n glyphs of the row, from glyph j on, become blank.
@@ -139,9 +134,5 @@ pub fn clear(row: &mut [u32], j: usize, n: usize)
 {
     let x = WORDS * j;
     let end = WORDS * n;
-    let mut k = 0;
-    while k < end {
-        row[x + k] = 0;
-        k += 1;
-    }
+    row[x..x + end].fill(0);
 }

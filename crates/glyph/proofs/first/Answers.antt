@@ -4,12 +4,6 @@ use Rattle.glyph.specs.Glyph.{words}
 use Rattle.glyph.specs.Laws.{length-glyphs_of, take-glyphs_of}
 use Rattle.glyph.proofs.first.Goals as goal
 
-pub overflow_mul-x : goal.overflow_mul-x
-overflow_mul-x c = omega (arith, length-glyphs_of c.args.row.now)
-
-pub slice_bounds-result-end : goal.slice_bounds-result-end
-slice_bounds-result-end c = omega (arith, length-glyphs_of c.args.row.now)
-
 pub returns : goal.returns
 returns c = let w = c.args.row.now in let k = c.args.k in
     let e : words * k - 0 ≡ words * k = omega arith in

@@ -1,21 +1,16 @@
 -- The sets have the pair exactly when one of the first k pairs was it, which `hit` says, or one from there on is. Assumes nothing.
-use Rattle.std.proofs.Common.{arith, sym, ◌*◌, ◌+◌, ◌∙◌}
+use Rattle.std.proofs.Common.{arith, sym, ◌∙◌}
 use Rattle.glyph.specs.SetLaws.{pair_step, pair_end}
 use Rattle.glyph.proofs.in_set.Goals as goal
-
-pub overflow_cast-hit : goal.overflow_cast-hit
-overflow_cast-hit c = omega (arith, c.shared_slice_known-1.given (2 * c.loop-k.k))
-
-pub overflow_cast-hit-in-loop-k : goal.overflow_cast-hit-in-loop-k
-overflow_cast-hit-in-loop-k c = omega (arith, c.shared_slice_known-in-loop-k-1.given (2 * c.loop-k.k + 1))
 
 pub loop-k-preserved : goal.loop-k-preserved
 loop-k-preserved c =
     let a = c.args in
     let l = c.loop-k in
-    (omega arith, l.invariant.1 ∙ pair_step a.sets.now l.k a.set a.id l.hit (omega arith))
+    l.invariant ∙ pair_step a.sets.now l.k a.set a.id l.hit (omega arith)
 
 pub returns : goal.returns
-returns c = let a = c.args in
+returns c =
+    let a = c.args in
     let l = c.loop-k in
-    sym (l.invariant.1 ∙ pair_end a.sets.now l.k a.set a.id l.hit (omega arith))
+    sym (l.invariant ∙ pair_end a.sets.now l.k a.set a.id l.hit (omega arith))
