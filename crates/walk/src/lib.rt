@@ -84,6 +84,9 @@ pub fn forward_from(
     ensures { result ≡ walk_from (judge_at m (value_of sign lists.now) syllable sets.now
         (glyphs_of row.now)) len next }
 {
+    if len < next {
+        return Walked::RanOut(next);
+    }
     for p in next..len {
         match verdict_match::judge(m, sign, lists, syllable, sets, glyph::read(row, p)) {
             Verdict::Match => return Walked::Found(p),
@@ -91,7 +94,7 @@ pub fn forward_from(
             Verdict::Skip => {}
         }
     }
-    Walked::RanOut(next.max(len))
+    Walked::RanOut(len)
 }
 
 // The extent of a backward walk that is stopped at p.

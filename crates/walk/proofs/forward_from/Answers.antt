@@ -30,7 +30,7 @@ module _ (c : After-judge) where
       let a = c.args in
       let told = c.judge.ensures ∙ ap (verdict a.m (value_of a.sign a.lists.now) a.syllable a.sets.now)
       c.read.ensures in
-      c.loop-p.invariant.1 ∙ walk_on_by judge len place (omega arith) r (sym told ∙ e)
+      c.loop-p.invariant ∙ walk_on_by judge len place (omega arith) r (sym told ∙ e)
 
 pub returns-in-Match : goal.returns-in-Match
 returns-in-Match c = sym (turn (goal.at.returns-in-Match c).After-judge _ c.in-Match.is)
@@ -39,9 +39,13 @@ pub returns-in-NotMatch : goal.returns-in-NotMatch
 returns-in-NotMatch c = sym (turn (goal.at.returns-in-NotMatch c).After-judge _ c.in-NotMatch.is)
 
 pub loop-p-preserved : goal.loop-p-preserved
-loop-p-preserved c = (omega arith, turn (goal.at.loop-p-preserved c).After-judge _ c.in-Skip.is)
+loop-p-preserved c = turn (goal.at.loop-p-preserved c).After-judge _ c.in-Skip.is
+
+pub returns-then-len-next : goal.returns-then-len-next
+returns-then-len-next c = let a = c.args in
+    sym (walk_end (judge_at a.m (value_of a.sign a.lists.now) a.syllable a.sets.now (glyphs_of a.row.now)) a.len a.next (omega arith))
 
 pub returns : goal.returns
 returns c = let a = c.args in
     let v = judge_at a.m (value_of a.sign a.lists.now) a.syllable a.sets.now (glyphs_of a.row.now) in
-    sym (c.loop-p.invariant.1 ∙ walk_end v a.len c.loop-p.p (omega arith) ∙ ap RanOut (omega arith))
+    sym (c.loop-p.invariant ∙ walk_end v a.len c.loop-p.p (omega arith) ∙ ap RanOut (omega arith))

@@ -1,10 +1,9 @@
-use Rattle.std.proofs.Common.{max, ◌≡◌, ◌≤◌}
+use Rattle.std.proofs.Common.{◌≡◌}
 use Rattle.glyph.specs.Glyph.{glyphs_of}
 use Rattle.verdict.specs.Verdict.{value_of, judge_at}
 use Rattle.walk.specs.Walk.{walk_from}
 use Rattle.walk.proofs.forward_from.Given as goal
 
 abbrev pub invariant-loop-p : goal.invariant-loop-p
-invariant-loop-p l = (l.p ≤ max l.next l.len)
-    × (walk_from (judge_at l.m (value_of l.sign l.lists) l.syllable l.sets (glyphs_of l.row)) l.len l.next
-    ≡ walk_from (judge_at l.m (value_of l.sign l.lists) l.syllable l.sets (glyphs_of l.row)) l.len l.p)
+invariant-loop-p l = walk_from (judge_at l.m (value_of l.sign l.lists) l.syllable l.sets (glyphs_of l.row)) l.len l.next
+    ≡ walk_from (judge_at l.m (value_of l.sign l.lists) l.syllable l.sets (glyphs_of l.row)) l.len l.p
