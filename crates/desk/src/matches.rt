@@ -8,6 +8,7 @@ ghost use Rattle.desk.specs.Matches.{terms_for, matched_with, matched_of, placed
 use crate::walks;
 use crate::walks::Lookup;
 use matching::{ContextMatch, InputAnswer, InputMatch};
+use verdict::Test;
 
 // 0 with end, total, count and positions; 4 with the extent in `end`; or a refusal's number. Unused slots are 0.
 #[repr(C)]
@@ -52,7 +53,7 @@ pub extern "C" fn cb_match_input(
         idx,
         asked(lookup),
         sets,
-        verdict::test_of(test),
+        Test::from(test),
         values,
     ))
 }
@@ -82,7 +83,7 @@ pub extern "C" fn cb_match_lookahead(
         start,
         asked(lookup),
         sets,
-        verdict::test_of(test),
+        Test::from(test),
         values,
     ))
 }
@@ -110,7 +111,7 @@ pub extern "C" fn cb_match_backtrack<'a>(
         idx,
         asked(lookup),
         sets,
-        verdict::test_of(test),
+        Test::from(test),
         values,
     ))
 }

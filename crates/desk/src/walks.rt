@@ -5,7 +5,7 @@ ghost use Rattle.verdict_ask.specs.Ask.{ask_skip, ask_match, ask_verdict, skip_r
 ghost use Rattle.walk.specs.Calls.{forward_of, backward_of};
 ghost use Rattle.desk.specs.Walks.{settings_for, matcher_for, sign_of, said_of, step_of};
 
-use verdict::{Matcher, MayMatch, MaySkip, Settings, Sign, Verdict};
+use verdict::{Matcher, MayMatch, MaySkip, Settings, Sign, Table, Test, Verdict};
 use verdict_ask::{MatchAnswer, SkipAnswer, VerdictAnswer};
 use walk::Walked;
 
@@ -157,9 +157,8 @@ fn matcher(l: Lookup, context: bool) -> Matcher
 pub fn settings(l: Lookup) -> Settings
     ensures { result ≡ settings_for l }
 {
-    let t = verdict::table_of(l.gpos);
     Settings {
-        table: t,
+        table: Table::from(l.gpos),
         zwnj: l.zwnj,
         zwj: l.zwj,
         syllables: l.syllables,
@@ -169,9 +168,8 @@ pub fn settings(l: Lookup) -> Settings
 fn sign(s: Sought) -> Sign
     ensures { result ≡ sign_of s }
 {
-    let t = verdict::test_of(s.test);
     Sign {
-        test: t,
+        test: Test::from(s.test),
         value: s.value,
     }
 }

@@ -4,4 +4,4 @@ use Rattle.desk.proofs.matches.cb_match_backtrack.Goals as goal
 
 pub returns : goal.returns
 returns c = c.context_told.ensures
-    ∙ rw (c.match_backtrack.ensures, c.test_of.ensures, c.asked.ensures)
+    ∙ rw (c.match_backtrack.ensures, c.from.ensures, c.asked.ensures)

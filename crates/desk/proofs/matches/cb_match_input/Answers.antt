@@ -4,4 +4,4 @@ use Rattle.desk.proofs.matches.cb_match_input.Goals as goal
 
 pub returns : goal.returns
 returns c = c.input_told.ensures
-    ∙ rw (c.match_input.ensures, c.test_of.ensures, c.asked.ensures)
+    ∙ rw (c.match_input.ensures, c.from.ensures, c.asked.ensures)

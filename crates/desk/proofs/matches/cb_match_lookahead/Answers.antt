@@ -4,4 +4,4 @@ use Rattle.desk.proofs.matches.cb_match_lookahead.Goals as goal
 
 pub returns : goal.returns
 returns c = c.context_told.ensures
-    ∙ rw (c.match_lookahead.ensures, c.test_of.ensures, c.asked.ensures)
+    ∙ rw (c.match_lookahead.ensures, c.from.ensures, c.asked.ensures)
