@@ -2,7 +2,7 @@
 // handed in by 7.
 #![tactic(auto)]
 
-ghost use Rattle.std.specs.Prelude.{◌≡◌, ◌≤◌, length, take};
+ghost use Rattle.std.specs.Prelude.{◌≡◌};
 ghost use Rattle.run_refuse.specs.Refuse.{bad_records, checked_first, rises_to, good_places};
 
 use run::RunRefusal;
@@ -13,13 +13,8 @@ pub const MOST_ALLOWANCE: u32 = 2147483647;
 
 pub const MAX_NESTING_LEVEL: usize = 64;
 
-#[derive(Clone, Copy)]
-pub enum Checked {
-    Accepted,
-    Refused(RunRefusal),
-}
-
 // Refusals 1, 2 and 12.
+#[tactic(auto, unfolding(crate::specs::Refuse::checked_first))]
 pub fn check(
     done: &[u32],
     coming: &[u32],
@@ -28,19 +23,19 @@ pub fn check(
     records: &[u16],
     allowance: u32,
     depth: usize,
-) -> Checked
+) -> Result<(), RunRefusal>
     ensures { result ≡ checked_first done.now coming.now place sets.now records.now allowance depth }
 {
     if text::is_unfit(done, coming, place) | (glyph::is_odd(sets) | is_bad_list(records)) {
-        return Checked::Refused(RunRefusal::Shape);
+        return Err(RunRefusal::Shape);
     }
     if text::is_past_end(place) {
-        return Checked::Refused(RunRefusal::Cursor);
+        return Err(RunRefusal::Cursor);
     }
     if (MOST_ALLOWANCE < allowance) | (MAX_NESTING_LEVEL < depth) {
-        return Checked::Refused(RunRefusal::Limits);
+        return Err(RunRefusal::Limits);
     }
-    Checked::Accepted
+    Ok(())
 }
 
 // Records that aren't pairs, or too many.
@@ -51,48 +46,28 @@ fn is_bad_list(records: &[u16]) -> bool
 }
 
 // Whether places can be a level's: some and at most 64, from the cursor on, rising, below an end that is in the row.
+#[tactic(auto, unfolding(glyph::specs::Glyph::limit))]
 pub fn is_level(places: &[u16; 64], count: usize, end: usize, idx: usize) -> bool
-    requires { length places.now ≡ 64 }
     ensures { result ≡ good_places idx end count places.now }
 {
-    if count == 0 {
-        return false;
-    }
-    if run_positions::SLOTS < count {
-        return false;
-    }
-    if glyph::LIMIT < end {
-        return false;
-    }
-    if wide(places[0]) != idx {
-        return false;
-    }
-    is_rising(places, count, end, idx)
+    count != 0
+        && count <= run_positions::SLOTS
+        && end <= glyph::LIMIT
+        && places[0] as usize == idx
+        && is_rising(&places[..count], end, idx)
 }
 
-// Whether the first `count` places rise from `from` on, all below the end.
-fn is_rising(places: &[u16; 64], count: usize, end: usize, from: usize) -> bool
-    requires { (length places.now ≡ 64) × (count ≤ 64) }
-    ensures { result ≡ rises_to from end (take count places.now) }
+// Whether places rise from `from` on, all below the end.
+fn is_rising(places: &[u16], end: usize, from: usize) -> bool
+    ensures { result ≡ rises_to from end places.now }
 {
     let mut low = from;
-    let mut i = 0;
-    while i < count {
-        let p = wide(places[i]);
-        if p < low {
-            return false;
-        }
-        if end <= p {
+    for place in places {
+        let p = *place as usize;
+        if p < low || end <= p {
             return false;
         }
         low = p + 1;
-        i += 1;
     }
     true
-}
-
-fn wide(x: u16) -> usize
-    ensures { result ≡ x }
-{
-    x as usize
 }
