@@ -1,6 +1,5 @@
 -- A whole frame's lists are read as its head counts them, and each is stored. Assumes nothing.
-use Rattle.std.proofs.Common.{Bool, ap, arith, cond, sym, true, ◌∙◌, ◌≡◌, ◌≤◌}
-use Rattle.tape_frame.specs.declared.Decoded.{Decoded}
+use Rattle.std.proofs.Common.{Some, Bool, ap, arith, cond, sym, true, ◌∙◌, ◌≡◌, ◌≤◌}
 use Rattle.tape_frame.specs.Frame.{a_frame, not_frame, most_glyphs, done_count, is_whole, frame_in, whole_frame}
 use Rattle.tape_frame.specs.Decoding.{Bounded}
 use Rattle.tape_frame.specs.DecodingLaws.{head_bounded, decodes_none, count_done, rows_values, rows_done, rows_coming}
@@ -23,7 +22,7 @@ few_done c =
 
 pub returns-then-not-is_whole : goal.returns-then-not-is_whole
 returns-then-not-is_whole c = let a = c.args in
-    decodes_none (whole_frame a.table a.b.now) a.values.now a.done.now a.coming.now
+    decodes_none (whole_frame a.table a.b.now) a.lists.now
     (ap (λ (t : Bool). cond t (a_frame (frame_in a.table a.b.now)) not_frame)
     (sym c.is_whole.ensures ∙ c.if-not-is_whole.true))
 
@@ -57,8 +56,8 @@ returns c =
     let on = c.coming_at.ensures.0 in
     rw (whole_told (goal.at.returns c).After-head_of-head)
     record {
-      answers = ap Decoded.Frame e;
-      values = c.fill.ensures ∙ ap (put a.values.now 0) (rows_values a.table b h e);
-      done = rw from at c.fill-2.ensures ∙ ap (put a.done.now 0) (rows_done a.table b h e);
-      coming = rw on at c.fill-3.ensures ∙ ap (put a.coming.now 0) (rows_coming a.table b h e);
+      answers = ap Some e;
+      values = c.fill.ensures ∙ ap (put a.lists.now.values 0) (rows_values a.table b h e);
+      done = rw from at c.fill-2.ensures ∙ ap (put a.lists.now.done 0) (rows_done a.table b h e);
+      coming = rw on at c.fill-3.ensures ∙ ap (put a.lists.now.coming 0) (rows_coming a.table b h e);
     }
