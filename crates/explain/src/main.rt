@@ -12,81 +12,54 @@ mod words;
 ghost use Rattle.std.specs.Prelude.{◌+◌, ◌<◌, ◌≤◌, length};
 ghost use Rattle.glyph.specs.Glyph.{glyphs_of};
 ghost use Rattle.tape_frame.specs.Decoding.{Bounded};
-ghost use Rattle.tape_answer.specs.Feeding.{most_kept};
 
-use crate::words::ROOM;
+use crate::words::Line;
 use explain_glyph::{Joined, Turn};
 use glyph::Glyph;
-use ligature::{Base, Ligbase};
-use matching::{InputAnswer, Terms};
-use std::io::{Read, Stdin};
-use tape_frame::{Decoded, Head};
-use verdict::{Matcher, Sign, Table, Test};
+use ligature::Ligbase;
+use matching::{NoMatch, Terms};
+use std::io::{Read, Stdin, Stdout, Write};
+use tape_frame::Head;
+use verdict::{Matcher, Sign, Test};
 
-// Standard error, by its number.
-const STDERR: i32 = 2;
-
-// What is kept from read to read: the bytes of the line so far, and the number of lines before it. No more is read where the input has ended or where
-// answers are lost.
-#[derive(Clone, Copy)]
-pub struct Turns {
-    pub kept: usize,
-    pub lines: u64,
-    pub more: bool,
-    pub lost: bool,
-}
+// Bytes of a read.
+const SPACE: usize = 65536;
 
 // ---- a frame
 
 // The base that was searched for.
-fn tell_base(line: &mut [u8; ROOM], searched: &[u32], id: u8, m: Matcher) {
-    match ligature::find_base(searched, id) {
-        Base::At(j) => {
-            let sets = [0u16; 0];
-            let g = glyph::read(searched, j);
-            let s = verdict_skip::may_skip(m, &sets, g);
-            let why = explain_glyph::why_skip(m, &sets, g);
-            rows::base(line, j, g, s, why, m.props);
-        }
-        Base::Nothing => rows::no_base(line),
-    }
+fn tell_base(line: &mut Line, searched: &[u32], id: u8, m: Matcher) {
+    let Some(j) = ligature::find_base(searched, id) else {
+        rows::no_base(line);
+        return;
+    };
+    let g = glyph::read(searched, j);
+    let s = verdict_skip::may_skip(m, &[], g);
+    let why = explain_glyph::why_skip(m, &[], g);
+    rows::base(line, j, g, s, why, m.props);
 }
 
 // What the ligature rule looked at, where it searched for a base or refused the glyph.
 fn tell_joined(
-    line: &mut [u8; ROOM],
+    line: &mut Line,
     searched: &[u32],
     first: Glyph,
     this: Glyph,
     m: Matcher,
     j: Joined,
 ) {
-    let base = j.base;
-    match base {
-        Ligbase::NotChecked => {
-            if !j.joins {
-                rows::compared(line, first, this);
-                rows::unlike(line);
-            }
-        }
-        Ligbase::MayNotSkip | Ligbase::MaySkip => {
-            rows::compared(line, first, this);
-            tell_base(line, searched, first.lig, m);
-        }
-    }
-}
-
-// The ligature rule is asked of glyphs that match.
-fn is_match(turn: Turn) -> bool {
-    match turn {
-        Turn::Passed | Turn::Stopped => false,
-        Turn::Taken | Turn::Unlike => true,
+    if j.base != Ligbase::NotChecked {
+        rows::compared(line, first, this);
+        tell_base(line, searched, first.lig, m);
+    } else if !j.joins {
+        rows::compared(line, first, this);
+        rows::unlike(line);
     }
 }
 
 // The glyph at a place, for the value that is due.
 fn tell_place(
-    line: &mut [u8; ROOM],
+    line: &mut Line,
     searched: &[u32],
     text: &[u32],
     first: Glyph,
@@ -96,41 +69,23 @@ fn tell_place(
 ) -> Turn
     requires { p < length (glyphs_of text.now) }
 {
-    let sets = [0u16; 0];
     let sign = Sign {
         test: Test::Equal,
         value: due,
     };
     let this = glyph::read(text, p);
-    let told = explain_glyph::tell(m, &sets, sign, first, this, searched);
-    let seen = told.seen;
-    let turn = told.turn;
-    let joined = told.joined;
-    rows::tested(line, p, this, due, seen, turn, m.props);
-    if is_match(turn) {
-        tell_joined(line, searched, first, this, m, joined);
+    let told = explain_glyph::tell(m, &[], sign, first, this, searched);
+    rows::tested(line, p, this, due, told.seen, told.turn, m.props);
+    // The ligature rule is asked of glyphs that match.
+    if matches!(told.turn, Turn::Taken | Turn::Unlike) {
+        tell_joined(line, searched, first, this, m, told.joined);
     }
-    turn
-}
-
-fn is_over(turn: Turn) -> bool {
-    match turn {
-        Turn::Passed | Turn::Taken => false,
-        Turn::Stopped | Turn::Unlike => true,
-    }
-}
-
-// The next value is due once a glyph is taken.
-fn next_due(due: usize, turn: Turn) -> usize {
-    match turn {
-        Turn::Taken => std::num::wrapping_add_usize(due, 1),
-        Turn::Passed | Turn::Stopped | Turn::Unlike => due,
-    }
+    told.turn
 }
 
 // Each glyph after the cursor, until every value is taken, a walk stops or runs out, or the ligature rule refuses.
 fn tell_rows(
-    line: &mut [u8; ROOM],
+    line: &mut Line,
     searched: &[u32],
     text: &[u32],
     idx: usize,
@@ -144,65 +99,50 @@ fn tell_rows(
     let first = glyph::read(text, idx);
     rows::titles(line);
     rows::cursor(line, idx, first);
-    let mut p = idx + 1;
     let mut due = 0;
-    while p < len {
+    for p in idx + 1..len {
         if values.len() <= due {
             rows::rest(line, p, len);
             return;
         }
-        let turn = tell_place(line, searched, text, first, p, m, values[due]);
-        p += 1;
-        if is_over(turn) {
-            rows::rest(line, p, len);
-            return;
+        match tell_place(line, searched, text, first, p, m, values[due]) {
+            Turn::Passed => {}
+            // The next value is due once a glyph is taken.
+            Turn::Taken => due += 1,
+            Turn::Stopped | Turn::Unlike => {
+                rows::rest(line, p + 1, len);
+                return;
+            }
         }
-        due = next_due(due, turn);
     }
     if due < values.len() {
         rows::ran_out(line, values[due]);
     }
 }
 
-fn is_refused(answer: InputAnswer) -> bool {
-    match answer {
-        InputAnswer::Refused(_) => true,
-        InputAnswer::Matched { end: _, total: _ } | InputAnswer::Lost(_) | InputAnswer::Ligature =>
-            { false }
-    }
-}
-
 fn tell_rows_of(
-    line: &mut [u8; ROOM],
+    line: &mut Line,
     before: &[u32],
     text: &[u32],
     idx: usize,
     lookup: Terms,
     values: &[u32],
 ) {
-    let settings = lookup.settings;
-    let table = settings.table;
-    let m = verdict::matcher_of(settings, false, lookup.mask, lookup.props);
-    tell_rows(
-        line,
-        matching::searched_row(table, before),
-        text,
-        idx,
-        m,
-        values,
-    );
+    let table = lookup.settings.table;
+    let m = verdict::matcher_of(lookup.settings, false, lookup.mask, lookup.props);
+    let searched = matching::searched_row(table, before);
+    tell_rows(line, searched, text, idx, m, values);
 }
 
 // The rows of a frame that isn't refused, and its answer.
 fn tell_match(
-    line: &mut [u8; ROOM],
+    line: &mut Line,
     before: &[u32],
     text: &[u32],
     idx: usize,
     lookup: Terms,
     values: &[u32],
 ) {
-    let sets = [0u16; 0];
     let d = glyph::count(before);
     let len = glyph::count(text);
     let found = matching_calls::match_input(
@@ -212,20 +152,19 @@ fn tell_match(
         len,
         idx,
         lookup,
-        &sets,
+        &[],
         Test::Equal,
         values,
     );
-    let said = found.answer;
-    if !is_refused(said) {
+    if !matches!(found.answer, Err(NoMatch::Refused(_))) {
         tell_rows_of(line, before, text, idx, lookup, values);
     }
     answer::in_words(line, found);
 }
 
 fn tell_frame(
-    line: &mut [u8; ROOM],
-    lines: u64,
+    line: &mut Line,
+    number: u64,
     h: Head,
     values: &[u32; tape_frame::MOST_VALUES],
     done: &[u32; tape_frame::ROW],
@@ -233,186 +172,118 @@ fn tell_frame(
 )
     requires { Bounded h }
 {
-    let n = h.values;
-    let d = h.done;
-    let c = h.coming;
-    let settings = h.settings;
     let lookup = Terms {
-        settings,
+        settings: h.settings,
         mask: h.mask,
         props: h.props,
     };
-    let asked = &values[..];
-    let before = &done[..];
-    let text = &coming[..];
-    head::tell(line, lines, h);
-    head::values(line, &asked[0..n]);
-    tell_match(
-        line,
-        &before[0..glyph::WORDS * d],
-        &text[0..glyph::WORDS * c],
-        h.cursor,
-        lookup,
-        &asked[0..n],
-    );
+    let asked = &values[..h.values];
+    let before = &done[..glyph::WORDS * h.done];
+    let text = &coming[..glyph::WORDS * h.coming];
+    head::tell(line, number, h);
+    head::values(line, asked);
+    tell_match(line, before, text, h.cursor, lookup, asked);
 }
 
 // ---- a line
 
+// Answers could not be written.
+#[derive(Clone, Copy, Debug)]
+struct Lost;
+
 // The tape's own answer, without its 0A, and an empty line.
-fn tell_answer(frame: &[u8], text: &mut [u8; ROOM]) {
+fn tell_answer(frame: &[u8], line: &mut Line) {
     let mut out = [0u8; tape_answer::MOST_ANSWER];
     let end = tape_feed::answer_line(frame, &mut out, 0);
-    let all = &out[..];
-    answer::on_tape(text, &all[0..end]);
-    words::end(text, 0);
+    answer::on_tape(line, &out[..end]);
+    line.end();
 }
 
-// False where it could not be written.
-fn tell_line(frame: &[u8], lines: u64) -> bool {
-    let mut text = [0u8; ROOM];
+fn tell_line(out: Stdout, frame: &[u8], number: u64) -> Result<(), Lost> {
+    let mut line = Line::new(out);
     let mut values = [0u32; tape_frame::MOST_VALUES];
     let mut done = [0u32; tape_frame::ROW];
     let mut coming = [0u32; tape_frame::ROW];
     match tape_decode::decode(frame, &mut values, &mut done, &mut coming) {
-        Decoded::NoFrame => head::no_frame(&mut text, lines, explain_line::why_none(frame)),
-        Decoded::Frame(h) => tell_frame(&mut text, lines, h, &values, &done, &coming),
+        None => head::no_frame(&mut line, number, explain_line::why_none(frame)),
+        Some(h) => tell_frame(&mut line, number, h, &values, &done, &coming),
     }
-    tell_answer(frame, &mut text);
-    !words::is_lost(&text)
+    tell_answer(frame, &mut line);
+    if line.is_lost() {
+        return Err(Lost);
+    }
+    Ok(())
 }
 
 // ---- the input
 
-fn keep(kept: &mut [u8; tape_answer::MOST_KEPT], n: usize, b: u8) -> usize
-    requires { n ≤ most_kept }
-    ensures { result ≤ most_kept }
-{
-    if n < tape_answer::MOST_KEPT {
-        kept[n] = b;
-        return n + 1;
-    }
-    n
-}
-
-// A byte ends the line, which is told, or is kept, or only makes a long line longer.
-fn take_byte(kept: &mut [u8; tape_answer::MOST_KEPT], n: usize, lines: u64, b: u8) -> Turns
-    requires { n ≤ most_kept }
-    ensures { result.kept ≤ most_kept }
-{
-    if b == tape_answer::NEWLINE {
-        let line = &kept[..];
-        let now = std::num::wrapping_add_u64(lines, 1);
-        let told = tell_line(&line[0..n], now);
-        return Turns {
-            kept: 0,
-            lines: now,
-            more: told,
-            lost: !told,
-        };
-    }
-    Turns {
-        kept: keep(kept, n, b),
-        lines,
-        more: true,
-        lost: false,
-    }
-}
-
-fn take_piece(piece: &[u8], kept: &mut [u8; tape_answer::MOST_KEPT], n: usize, lines: u64) -> Turns
-    requires { n ≤ most_kept }
-    ensures { result.kept ≤ most_kept }
-{
-    let mut held = n;
-    let mut told = lines;
-    let mut at = 0;
-    while at < piece.len() {
-        let t = take_byte(kept, held, told, piece[at]);
-        if t.lost {
-            return t;
-        }
-        held = t.kept;
-        told = t.lines;
-        at += 1;
-    }
-    Turns {
-        kept: held,
-        lines: told,
-        more: true,
-        lost: false,
-    }
-}
-
-// One read, and what its lines are told. A read that fails counts as the end of the input.
-fn one_read(
-    stdin: &mut Stdin,
-    kept: &mut [u8; tape_answer::MOST_KEPT],
-    n: usize,
+// The line at hand: its first bytes, as far as there is room, and how many lines came before it.
+#[derive(Drop)]
+struct Kept {
+    bytes: [u8; tape_answer::MOST_KEPT],
+    len: usize,
     lines: u64,
-) -> Turns
-    requires { n ≤ most_kept }
-    ensures { result.kept ≤ most_kept }
-{
-    let mut space = io::large_buffer();
-    let size = stdin.read(&mut space).unwrap_or(0);
-    if size == 0 {
-        return Turns {
-            kept: n,
-            lines,
-            more: false,
-            lost: false,
-        };
-    }
-    take_piece(&space[..size], kept, n, lines)
+    ghost held: { len ≤ length bytes },
 }
 
-// Reads to the end, or until answers are lost, and says what is kept of a last line that lacks its 0A.
-fn read_all(stdin: &mut Stdin, kept: &mut [u8; tape_answer::MOST_KEPT]) -> Turns
-    ensures { result.kept ≤ most_kept }
-{
-    let mut n = 0;
-    let mut lines = 0;
-    let mut turns = u64::MAX;
-    while turns > 0 {
-        let t = one_read(stdin, kept, n, lines);
-        n = t.kept;
-        lines = t.lines;
-        if !t.more {
-            return t;
+impl Kept {
+    // A byte ends the line, which is told, or is kept, or only makes a long line longer.
+    fn take(&mut self, out: Stdout, b: u8) -> Result<(), Lost> {
+        if b == tape_answer::NEWLINE {
+            return self.tell(out);
         }
-        turns -= 1;
+        if self.len < tape_answer::MOST_KEPT {
+            self.bytes[self.len] = b;
+            self.len += 1;
+        }
+        Ok(())
     }
-    Turns {
-        kept: n,
-        lines,
-        more: false,
-        lost: false,
+
+    fn tell(&mut self, out: Stdout) -> Result<(), Lost> {
+        let len = self.len;
+        self.len = 0;
+        self.lines = self.lines.wrapping_add(1);
+        tell_line(out, &self.bytes[..len], self.lines)
+    }
+
+    fn take_piece(&mut self, out: Stdout, piece: &[u8]) -> Result<(), Lost> {
+        for &b in piece {
+            self.take(out, b)?;
+        }
+        Ok(())
     }
 }
 
-// A program has no exit status of its own: who starts it learns from this line that answers are missing.
-fn complain() {
-    io::write_all(STDERR, b"explain: answers could not be written\n");
+// Reads to the end, or until answers are lost. A read that fails counts as the end of the input.
+fn read_all(stdin: &mut Stdin, out: Stdout, kept: &mut Kept) -> Result<(), Lost> {
+    for _ in 0..u64::MAX {
+        let mut space = [0u8; SPACE];
+        let size = stdin.read(&mut space).unwrap_or(0);
+        if size == 0 {
+            break;
+        }
+        kept.take_piece(out, &space[..size])?;
+    }
+    Ok(())
 }
 
-fn run(stdin: &mut Stdin, kept: &mut [u8; tape_answer::MOST_KEPT]) {
-    let t = read_all(stdin, kept);
-    if t.lost {
-        complain();
-        return;
+// Every line of the input, and a last one that lacks its 0A.
+fn tell_all(stdin: &mut Stdin, out: Stdout) -> Result<(), Lost> {
+    let mut kept = Kept {
+        bytes: [0; tape_answer::MOST_KEPT],
+        len: 0,
+        lines: 0,
+    };
+    read_all(stdin, out, &mut kept)?;
+    if 0 < kept.len {
+        return kept.tell(out);
     }
-    let n = t.kept;
-    if n == 0 {
-        return;
-    }
-    let line = &kept[..];
-    if !tell_line(&line[0..n], std::num::wrapping_add_u64(t.lines, 1)) {
-        complain();
-    }
+    Ok(())
 }
 
+// The program gives no exit status of its own: who starts it learns from this line that answers are missing.
 fn main(rt: HostRuntime) {
-    let mut stdin = rt.stdin();
-    let mut kept = [0u8; tape_answer::MOST_KEPT];
-    run(&mut stdin, &mut kept);
+    if tell_all(&mut rt.stdin(), rt.stdout()).is_err() {
+        let _ = rt.stderr().write_all(b"explain: answers could not be written\n");
+    }
 }

@@ -6,10 +6,12 @@
 // An operation of 100 and more is the same question where ours and the original's answers differ (docs/DIFFERENCES.md), with ours.
 #![tactic(auto)]
 
-use matching::{ContextMatch, InputAnswer, InputMatch, Terms};
-use stored::{Replayed, after, list, listed, more, say, size, slots_are, word};
+use matching::{ContextMatch, InputAnswer, InputMatch, NoContext, NoMatch, Success, Terms};
+use std::io;
+use stored::{Replayed, after, list, listed, more, size, slots_are, word};
+use verdict::Test;
 
-#[derive(Clone, Copy)]
+#[derive(Clone, Copy, Default)]
 struct Tally {
     input: u64,
     lookahead: u64,
@@ -18,50 +20,35 @@ struct Tally {
     wrong: u64,
 }
 
-fn main() {
-    let mut words = stored::word_room();
-    let count = stored::read_list(&mut words);
-    report(replay(&words, count));
+fn main(rt: HostRuntime) -> io::Result<()> {
+    let t: Tally = stored::replay_input();
+    println!(
+        rt;
+        "input {}, lookahead {}, backtrack {}, differences {}; answered otherwise {}",
+        t.input,
+        t.lookahead,
+        t.backtrack,
+        t.differences,
+        t.wrong
+    )
 }
 
-fn report(t: Tally) {
-    say(b"input ", t.input);
-    say(b", lookahead ", t.lookahead);
-    say(b", backtrack ", t.backtrack);
-    say(b", differences ", t.differences);
-    say(b"; answered otherwise ", t.wrong);
-    io::write_all(1, b"\n");
-}
-
-fn replay(words: &[u32], count: usize) -> Tally {
-    let mut tally = Tally {
-        input: 0,
-        lookahead: 0,
-        backtrack: 0,
-        differences: 0,
-        wrong: 0,
-    };
-    let mut at = 0;
-    let mut left = count;
-    while 0 < left {
-        if count <= at {
-            return tally;
-        }
+impl stored::Tally for Tally {
+    fn replay_line(&mut self, words: &[u32], at: usize) -> usize {
         let line = one(words, at);
-        tally = counted(tally, word(words, at), line.right);
-        at = line.next;
-        left -= 1;
+        self.count(word(words, at), line.right);
+        line.next
     }
-    tally
 }
 
-fn counted(t: Tally, op: u32, right: bool) -> Tally {
-    Tally {
-        input: more(t.input, op == 40),
-        lookahead: more(t.lookahead, op == 41),
-        backtrack: more(t.backtrack, op == 42),
-        differences: more(t.differences, 100 <= op),
-        wrong: more(t.wrong, !right),
+impl Tally {
+    // One line more.
+    fn count(&mut self, op: u32, right: bool) {
+        self.input = more(self.input, op == 40);
+        self.lookahead = more(self.lookahead, op == 41);
+        self.backtrack = more(self.backtrack, op == 42);
+        self.differences = more(self.differences, 100 <= op);
+        self.wrong = more(self.wrong, !right);
     }
 }
 
@@ -93,7 +80,7 @@ fn asked<'a>(
     k: usize,
 ) -> Replayed {
     let terms = terms_at(words, at);
-    let test = verdict::test_of((word(words, after(at, 7)) % 256) as u8);
+    let test = Test::from((word(words, after(at, 7)) % 256) as u8);
     let d = size(words, after(at, 8));
     let len = size(words, after(at, 9));
     let idx = size(words, after(at, 10));
@@ -138,49 +125,38 @@ fn terms_at(words: &[u32], at: usize) -> Terms {
 
 fn context_is(words: &[u32], c: ContextMatch, k: usize) -> Replayed {
     match c {
-        ContextMatch::Matched(place) => place_is(words, 0, place, k),
-        ContextMatch::Refused(why) => place_is(words, matching::refusal_number(why) as u32, 0, k),
-        ContextMatch::Lost(extent) => place_is(words, 4, extent, k),
+        Ok(place) => place_is(words, 0, place, k),
+        Err(NoContext::Refused(why)) => place_is(words, why as u32, 0, k),
+        Err(NoContext::Lost(extent)) => place_is(words, 4, extent, k),
     }
 }
 
 fn place_is(words: &[u32], number: u32, place: usize, k: usize) -> Replayed {
     Replayed {
-        right: (word(words, k) == number) & (size(words, after(k, 1)) == place),
+        right: word(words, k) == number && size(words, after(k, 1)) == place,
         next: after(k, 2),
     }
 }
 
 fn input_is(words: &[u32], m: InputMatch, k: usize) -> Replayed {
-    let answer = m.answer;
-    let positions = m.positions;
     let count = size(words, after(k, 3));
-    let same = slots_are(words, &positions, after(k, 4), count) & (m.count == count);
+    let same = slots_are(words, &m.positions, after(k, 4), count) && m.count == count;
     Replayed {
-        right: answer_is(words, answer, k) & same,
+        right: answer_is(words, m.answer, k) && same,
         next: after(after(k, 4), count),
     }
 }
 
-fn answer_is(words: &[u32], a: InputAnswer, k: usize) -> bool {
-    match a {
-        InputAnswer::Matched { end, total } => place_is(words, 0, end, k).right
-            & total_is(word(words, after(k, 2)), total),
-        InputAnswer::Refused(why) => place_is(
-            words,
-            matching::refusal_number(why) as u32,
-            0,
-            k,
-        ).right,
-        InputAnswer::Lost(extent) => place_is(words, 4, extent, k).right,
-        InputAnswer::Ligature => place_is(words, 5, 0, k).right,
+fn answer_is(words: &[u32], answer: InputAnswer, k: usize) -> bool {
+    match answer {
+        Ok(Success { end, total }) => place_is(words, 0, end, k).right
+            && total_is(word(words, after(k, 2)), total),
+        Err(NoMatch::Refused(why)) => place_is(words, why as u32, 0, k).right,
+        Err(NoMatch::Lost(extent)) => place_is(words, 4, extent, k).right,
+        Err(NoMatch::Ligature) => place_is(words, 5, 0, k).right,
     }
 }
 
 fn total_is(stored: u32, total: u16) -> bool {
-    (stored == 4294967295) | (stored == wide(total))
-}
-
-fn wide(x: u16) -> u32 {
-    x as u32
+    stored == 4294967295 || stored == total as u32
 }

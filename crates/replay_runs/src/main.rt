@@ -10,17 +10,18 @@
 
 ghost use Rattle.std.specs.Prelude.{◌≤◌};
 
-use matching::{InputAnswer, InputMatch, Refusal};
-use run::Given;
+use matching::{InputAnswer, InputMatch, NoMatch, Refusal, Success};
+use run::{Given, RunRefusal};
 use run_calls::RunAnswer;
-use stored::{Replayed, Span, after, list, listed, more, say, size, slots_are, word};
+use std::io;
+use stored::{Replayed, Span, after, list, listed, more, size, slots_are, word};
 
 // The words of a run's row, and room for one that has a glyph more.
 const ROW: usize = glyph::WORDS * glyph::LIMIT;
 
 const ROOM: usize = ROW + glyph::WORDS;
 
-#[derive(Clone, Copy)]
+#[derive(Clone, Copy, Default)]
 struct Tally {
     finished: u64,
     short: u64,
@@ -33,7 +34,7 @@ struct Tally {
     wrong: u64,
 }
 
-#[derive(Clone, Copy)]
+#[derive(Clone, Copy, Default)]
 struct Refusals {
     by_1: u64,
     by_2: u64,
@@ -72,109 +73,77 @@ struct Lists {
     coming: Span,
 }
 
-fn main() {
-    let mut words = stored::word_room();
-    let count = stored::read_list(&mut words);
-    report(replay(&words, count));
+fn main(rt: HostRuntime) -> io::Result<()> {
+    report(&rt, stored::replay_input())
 }
 
-fn report(t: Tally) {
-    say(b"finished ", t.finished);
-    say(b", short ", t.short);
-    say(b", deep ", t.deep);
-    say(b", full ", t.full);
-    report_refused(t.refused);
-    say(b"; other cells not 0 ", t.filled);
-    say(b", differences ", t.differences);
-    say(b"; answered otherwise ", t.wrong);
-    io::write_all(1, b"\n");
+fn report(rt: &impl Print, t: Tally) -> io::Result<()> {
+    print!(
+        rt;
+        "finished {}, short {}, deep {}, full {}",
+        t.finished,
+        t.short,
+        t.deep,
+        t.full
+    )?;
+    report_refused(rt, t.refused)?;
+    println!(
+        rt;
+        "; other cells not 0 {}, differences {}; answered otherwise {}",
+        t.filled,
+        t.differences,
+        t.wrong
+    )
 }
 
-fn report_refused(r: Refusals) {
-    say(b"; refused by 1: ", r.by_1);
-    say(b", by 2: ", r.by_2);
-    say(b", by 12: ", r.by_12);
-    say(b", by 11: ", r.by_11);
-    say(b", by 7: ", r.by_7);
+fn report_refused(rt: &impl Print, r: Refusals) -> io::Result<()> {
+    print!(
+        rt;
+        "; refused by 1: {}, by 2: {}, by 12: {}, by 11: {}, by 7: {}",
+        r.by_1,
+        r.by_2,
+        r.by_12,
+        r.by_11,
+        r.by_7
+    )
 }
 
-fn nothing() -> Tally {
-    let refused = Refusals {
-        by_1: 0,
-        by_2: 0,
-        by_12: 0,
-        by_11: 0,
-        by_7: 0,
-    };
-    Tally {
-        finished: 0,
-        short: 0,
-        deep: 0,
-        full: 0,
-        refused,
-        filled: 0,
-        differences: 0,
-        wrong: 0,
-    }
-}
-
-fn replay(words: &[u32], count: usize) -> Tally {
-    let mut tally = nothing();
-    let mut at = 0;
-    let mut left = count;
-    while 0 < left {
-        if count <= at {
-            return tally;
-        }
+impl stored::Tally for Tally {
+    fn replay_line(&mut self, words: &[u32], at: usize) -> usize {
         let opening = opening_at(words, at);
         let said = one(words, opening);
-        let line = said.line;
-        tally = counted(
-            tally,
+        self.count(
             word(words, at),
             opening.before,
             said.number,
-            line.right,
+            said.line.right,
         );
-        at = line.next;
-        left -= 1;
-    }
-    tally
-}
-
-fn counted(t: Tally, op: u32, filler: u32, n: u32, right: bool) -> Tally {
-    let refused = refused_counted(t.refused, n);
-    Tally {
-        finished: more(t.finished, n == 0),
-        short: more(t.short, n == 8),
-        deep: more(t.deep, n == 9),
-        full: more(t.full, n == 10),
-        refused,
-        filled: more(t.filled, filler != 0),
-        differences: more(t.differences, (100 <= op) & (op < 200)),
-        wrong: more(t.wrong, !right),
+        said.line.next
     }
 }
 
-fn refused_counted(r: Refusals, n: u32) -> Refusals {
-    Refusals {
-        by_1: more(r.by_1, n == 1),
-        by_2: more(r.by_2, n == 2),
-        by_12: more(r.by_12, n == 12),
-        by_11: more(r.by_11, n == 11),
-        by_7: more(r.by_7, n == 7),
+impl Tally {
+    // One line more: its operation, what the other cells held, the number that we answered, and whether the answer was the stored one.
+    fn count(&mut self, op: u32, filler: u32, n: u32, right: bool) {
+        self.finished = more(self.finished, n == 0);
+        self.short = more(self.short, n == 8);
+        self.deep = more(self.deep, n == 9);
+        self.full = more(self.full, n == 10);
+        self.refused.count(n);
+        self.filled = more(self.filled, filler != 0);
+        self.differences = more(self.differences, 100 <= op && op < 200);
+        self.wrong = more(self.wrong, !right);
     }
 }
 
-fn less(a: usize, b: usize) -> usize {
-    if b <= a { a - b } else { 0 }
-}
-
-// A row has at most as many words as there is room.
-fn held(n: usize, room: usize) -> usize
-    ensures { result ≤ room }
-{
-    if n < room { n } else { room }
+impl Refusals {
+    fn count(&mut self, n: u32) {
+        self.by_1 = more(self.by_1, n == 1);
+        self.by_2 = more(self.by_2, n == 2);
+        self.by_12 = more(self.by_12, n == 12);
+        self.by_11 = more(self.by_11, n == 11);
+        self.by_7 = more(self.by_7, n == 7);
+    }
 }
 
 fn opening_at(words: &[u32], at: usize) -> Opening {
@@ -253,11 +222,11 @@ fn asked(
 ) -> Answered {
     let mut done = row_room(o.before);
     put(&mut done, 0, listed(words, l.done));
-    let n = held(o.done, ROOM);
+    let n = o.done.min(ROOM);
     let mut coming = row_room(o.before);
     let ahead = listed(words, l.coming);
-    let m = held(o.coming, ROOM);
-    put(&mut coming, less(m, ahead.len()), ahead);
+    let m = o.coming.min(ROOM);
+    put(&mut coming, m.saturating_sub(ahead.len()), ahead);
     ran(
         words,
         o,
@@ -313,7 +282,7 @@ fn matched(words: &[u32], at: usize, number: u32, places: Span) -> InputMatch {
     let answer = match_answer(number, size(words, after(at, 8)), total);
     InputMatch {
         answer,
-        count: less(places.to, places.from),
+        count: places.to.saturating_sub(places.from),
         positions,
     }
 }
@@ -321,55 +290,42 @@ fn matched(words: &[u32], at: usize, number: u32, places: Span) -> InputMatch {
 // What a matcher says by each of 01's numbers; of 4 the extent stands for the end.
 fn match_answer(number: u32, end: usize, total: u16) -> InputAnswer {
     match number {
-        0 => InputAnswer::Matched { end, total },
-        1 => InputAnswer::Refused(Refusal::Shape),
-        2 => InputAnswer::Refused(Refusal::Cursor),
-        3 => InputAnswer::Refused(Refusal::Values),
-        4 => InputAnswer::Lost(end),
-        6 => InputAnswer::Refused(Refusal::Start),
-        _ => InputAnswer::Ligature,
+        0 => Ok(Success { end, total }),
+        1 => Err(NoMatch::Refused(Refusal::Shape)),
+        2 => Err(NoMatch::Refused(Refusal::Cursor)),
+        3 => Err(NoMatch::Refused(Refusal::Values)),
+        4 => Err(NoMatch::Lost(end)),
+        6 => Err(NoMatch::Refused(Refusal::Start)),
+        _ => Err(NoMatch::Ligature),
     }
 }
 
 // The words from a place of the row on become these, as far as there is room.
 fn put(row: &mut [u32], from: usize, words: &[u32]) {
-    let mut k = 0;
-    while k < words.len() {
-        store(row, after(from, k), words[k]);
-        k += 1;
+    for (k, &word) in words.iter().enumerate() {
+        if let Some(cell) = row.get_mut(after(from, k)) {
+            *cell = word;
+        }
     }
 }
 
-fn store(row: &mut [u32], at: usize, v: u32) {
-    if at < row.len() {
-        row[at] = v;
-    }
-}
-
-// The answer, then both rows.
+// The answer, then both rows. Of a refusal all but the number is 0.
 fn told(
     words: &[u32],
-    a: RunAnswer,
+    answer: Result<RunAnswer, RunRefusal>,
     done: &[u32],
     coming: &[u32],
     filler: u32,
     k: usize,
 ) -> Answered {
-    let ending = a.ending;
-    let positions = a.positions;
-    let number = run::number_of(ending) as u32;
+    let number = run::number_of(answer.map(|a| a.ending)) as u32;
     let count = size(words, after(k, 4));
     let before = list(words, after(after(k, 5), count));
     let ahead = list(words, before.to);
-    let same = (word(words, k) == number)
-        & (word(words, after(k, 1)) == a.spent)
-        & (size(words, after(k, 2)) == a.d)
-        & (size(words, after(k, 3)) == a.idx)
-        & (count == a.count)
-        & slots_are(words, &positions, after(k, 5), count);
     let line = Replayed {
-        right: same
-            & rows_are(
+        right: word(words, k) == number
+            && is_said(words, answer, k)
+            && rows_are(
                 listed(words, before),
                 listed(words, ahead),
                 done,
@@ -381,29 +337,35 @@ fn told(
     Answered { line, number }
 }
 
+// Spent, d, idx, the count and the positions are the stored ones.
+fn is_said(words: &[u32], answer: Result<RunAnswer, RunRefusal>, k: usize) -> bool {
+    let count = size(words, after(k, 4));
+    match answer {
+        Ok(a) => word(words, after(k, 1)) == a.spent
+            && size(words, after(k, 2)) == a.d
+            && size(words, after(k, 3)) == a.idx
+            && count == a.count
+            && slots_are(words, &a.positions, after(k, 5), count),
+        Err(_) => word(words, after(k, 1)) == 0
+            && size(words, after(k, 2)) == 0
+            && size(words, after(k, 3)) == 0
+            && count == 0,
+    }
+}
+
 fn rows_are(before: &[u32], ahead: &[u32], done: &[u32], coming: &[u32], filler: u32) -> bool {
-    holds(done, 0, before, filler) & holds(coming, less(coming.len(), ahead.len()), ahead, filler)
+    holds(done, 0, before, filler)
+        && holds(coming, coming.len().saturating_sub(ahead.len()), ahead, filler)
 }
 
 // The row has these words from a place on, and the filler everywhere else.
 fn holds(row: &[u32], from: usize, words: &[u32], filler: u32) -> bool {
-    let mut k = 0;
-    while k < row.len() {
-        if row[k] != cell(words, from, k, filler) {
-            return false;
-        }
-        k += 1;
-    }
-    true
+    row.iter().enumerate().all(|(k, &held)| held == cell(words, from, k, filler))
 }
 
 fn cell(words: &[u32], from: usize, k: usize, filler: u32) -> u32 {
-    if k < from {
-        return filler;
-    }
-    if k - from < words.len() {
-        word(words, k - from)
-    } else {
-        filler
+    match k.checked_sub(from).and_then(|i| words.get(i)) {
+        Some(&word) => word,
+        None => filler,
     }
 }

@@ -6,9 +6,10 @@
 use allowance::{Budget, Charged};
 use digest::SetDigest;
 use rule_digest::RuleSetDigest;
-use stored::{Replayed, after, more, number, part, say, word};
+use std::io;
+use stored::{Replayed, after, more, number, part, word};
 
-#[derive(Clone, Copy)]
+#[derive(Clone, Copy, Default)]
 struct Tally {
     sets: u64,
     rules: u64,
@@ -16,48 +17,34 @@ struct Tally {
     wrong: u64,
 }
 
-fn main() {
-    let mut words = stored::word_room();
-    let count = stored::read_list(&mut words);
-    report(replay(&words, count));
+fn main(rt: HostRuntime) -> io::Result<()> {
+    let t: Tally = stored::replay_input();
+    print!(
+        rt;
+        "set digests {}, rule set digests {}, allowances {}; answered otherwise {}
+",
+        t.sets,
+        t.rules,
+        t.allowances,
+        t.wrong
+    )
 }
 
-fn report(t: Tally) {
-    say(b"set digests ", t.sets);
-    say(b", rule set digests ", t.rules);
-    say(b", allowances ", t.allowances);
-    say(b"; answered otherwise ", t.wrong);
-    io::write_all(1, b"\n");
-}
-
-fn replay(words: &[u32], count: usize) -> Tally {
-    let mut tally = Tally {
-        sets: 0,
-        rules: 0,
-        allowances: 0,
-        wrong: 0,
-    };
-    let mut at = 0;
-    let mut left = count;
-    while 0 < left {
-        if count <= at {
-            return tally;
-        }
+impl stored::Tally for Tally {
+    fn replay_line(&mut self, words: &[u32], at: usize) -> usize {
         let line = one(words, at);
-        tally = counted(tally, word(words, at), line.right);
-        at = line.next;
-        left -= 1;
+        self.count(word(words, at), line.right);
+        line.next
     }
-    tally
 }
 
-// The tally with one line more.
-fn counted(t: Tally, op: u32, right: bool) -> Tally {
-    Tally {
-        sets: more(t.sets, op < 10),
-        rules: more(t.rules, (10 <= op) & (op < 20)),
-        allowances: more(t.allowances, 20 <= op),
-        wrong: more(t.wrong, !right),
+impl Tally {
+    // One line more.
+    fn count(&mut self, op: u32, right: bool) {
+        self.sets = more(self.sets, op < 10);
+        self.rules = more(self.rules, 10 <= op && op < 20);
+        self.allowances = more(self.allowances, 20 <= op);
+        self.wrong = more(self.wrong, !right);
     }
 }
 
@@ -145,7 +132,7 @@ fn range_line(words: &[u32], k: usize) -> Replayed {
     let d = digest_is(words, r.digest, after(k, 8));
     let y = yes_is(words, r.yes, d.next);
     Replayed {
-        right: d.right & y.right,
+        right: d.right && y.right,
         next: y.next,
     }
 }
@@ -192,38 +179,30 @@ fn number_is(words: &[u32], n: u64, k: usize) -> Replayed {
 
 fn yes_is(words: &[u32], yes: bool, k: usize) -> Replayed {
     Replayed {
-        right: word(words, k) == one_if(yes),
+        right: word(words, k) == yes as u32,
         next: after(k, 1),
     }
 }
 
-fn one_if(so: bool) -> u32 {
-    if so { 1 } else { 0 }
-}
-
 fn digest_is(words: &[u32], d: SetDigest, k: usize) -> Replayed {
-    let stored = masks(words, k);
-    let ours = d.masks;
-    let theirs = stored.masks;
     Replayed {
-        right: (ours[0] == theirs[0]) & (ours[1] == theirs[1]) & (ours[2] == theirs[2]),
+        right: masks(words, k) == d,
         next: after(k, 6),
     }
 }
 
 fn budget_is(words: &[u32], b: Budget, k: usize) -> Replayed {
     Replayed {
-        right: (number(words, k) == b.work) & (number(words, after(k, 2)) == b.bytes),
+        right: budget(words, k) == b,
         next: after(k, 4),
     }
 }
 
 fn charge_is(words: &[u32], c: Charged, k: usize) -> Replayed {
-    let charge = c.charge;
-    let y = yes_is(words, allowance::is_taken(charge), k);
+    let y = yes_is(words, c.charge.is_ok(), k);
     let b = budget_is(words, c.left, y.next);
     Replayed {
-        right: y.right & b.right,
+        right: y.right && b.right,
         next: b.next,
     }
 }

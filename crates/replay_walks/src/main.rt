@@ -6,12 +6,13 @@
 // one that is refused by 1, with 9 as its answer.
 #![tactic(auto)]
 
-use stored::{Replayed, after, list, listed, more, say, size, word};
-use verdict::{Matcher, MayMatch, MaySkip, Sign, Verdict};
-use verdict_ask::{MatchAnswer, SkipAnswer, VerdictAnswer};
+use glyph::IllShaped;
+use std::io;
+use stored::{Replayed, after, list, listed, more, size, word};
+use verdict::{Matcher, Sign, Test};
 use walk::Walked;
 
-#[derive(Clone, Copy)]
+#[derive(Clone, Copy, Default)]
 struct Tally {
     differences: u64,
     refused: u64,
@@ -34,59 +35,48 @@ struct Question {
     len: usize,
 }
 
-fn main() {
-    let mut words = stored::word_room();
-    let count = stored::read_list(&mut words);
-    report(replay(&words, count));
+fn main(rt: HostRuntime) -> io::Result<()> {
+    report(&rt, stored::replay_input())
 }
 
-fn report(t: Tally) {
-    say(b"may skip ", t.skips);
-    say(b", may match ", t.matches);
-    say(b", verdicts ", t.verdicts);
-    say(b", walks forward ", t.forward);
-    say(b", backward ", t.backward);
-    say(b", refused ", t.refused);
-    say(b", differences ", t.differences);
-    say(b"; answered otherwise ", t.wrong);
-    io::write_all(1, b"\n");
+fn report(rt: &impl Print, t: Tally) -> io::Result<()> {
+    print!(
+        rt;
+        "may skip {}, may match {}, verdicts {}, walks forward {}, backward {}, ",
+        t.skips,
+        t.matches,
+        t.verdicts,
+        t.forward,
+        t.backward
+    )?;
+    println!(
+        rt;
+        "refused {}, differences {}; answered otherwise {}",
+        t.refused,
+        t.differences,
+        t.wrong
+    )
 }
 
-fn replay(words: &[u32], count: usize) -> Tally {
-    let mut tally = Tally {
-        differences: 0,
-        refused: 0,
-        skips: 0,
-        matches: 0,
-        verdicts: 0,
-        forward: 0,
-        backward: 0,
-        wrong: 0,
-    };
-    let mut at = 0;
-    let mut left = count;
-    while 0 < left {
-        if count <= at {
-            return tally;
-        }
+impl stored::Tally for Tally {
+    fn replay_line(&mut self, words: &[u32], at: usize) -> usize {
         let line = one(words, at);
-        tally = counted(tally, word(words, at), line.right);
-        at = line.next;
-        left -= 1;
+        self.count(word(words, at), line.right);
+        line.next
     }
-    tally
 }
 
-fn counted(t: Tally, op: u32, right: bool) -> Tally {
-    Tally {
-        differences: more(t.differences, (100 <= op) & (op < 200)),
-        refused: more(t.refused, 200 <= op),
-        skips: more(t.skips, op == 30),
-        matches: more(t.matches, op == 34),
-        verdicts: more(t.verdicts, op == 31),
-        forward: more(t.forward, op == 32),
-        backward: more(t.backward, op == 33),
-        wrong: more(t.wrong, !right),
+impl Tally {
+    // One line more.
+    fn count(&mut self, op: u32, right: bool) {
+        self.differences = more(self.differences, 100 <= op && op < 200);
+        self.refused = more(self.refused, 200 <= op);
+        self.skips = more(self.skips, op == 30);
+        self.matches = more(self.matches, op == 34);
+        self.verdicts = more(self.verdicts, op == 31);
+        self.forward = more(self.forward, op == 32);
+        self.backward = more(self.backward, op == 33);
+        self.wrong = more(self.wrong, !right);
     }
 }
 
@@ -100,12 +90,11 @@ fn one(words: &[u32], at: usize) -> Replayed {
 }
 
 fn asked(words: &[u32], at: usize) -> Question {
-    let t = verdict::test_of((word(words, after(at, 8)) % 256) as u8);
     Question {
         op: word(words, at),
         matcher: matcher(words, at),
         sign: Sign {
-            test: t,
+            test: Test::from((word(words, after(at, 8)) % 256) as u8),
             value: word(words, after(at, 9)),
         },
         syllable: (word(words, after(at, 10)) % 256) as u8,
@@ -126,16 +115,15 @@ fn matcher(words: &[u32], at: usize) -> Matcher {
 fn answered(q: Question, row: &[u32], sets: &[u16], words: &[u32], k: usize) -> Replayed {
     let m = q.matcher;
     let s = q.sign;
-    let op = q.op % 100;
-    match op {
+    match q.op % 100 {
         30 => said_is(
             words,
-            skip_number(verdict_ask::ask_skip(row, q.place, m, sets)),
+            verdict_ask::ask_skip(row, q.place, m, sets).map(|said| said as u32),
             k,
         ),
         31 => said_is(
             words,
-            verdict_number(verdict_ask::ask_verdict(row, q.place, m, s, q.syllable, sets)),
+            verdict_ask::ask_verdict(row, q.place, m, s, q.syllable, sets).map(|said| said as u32),
             k,
         ),
         32 => walk_is(
@@ -145,7 +133,7 @@ fn answered(q: Question, row: &[u32], sets: &[u16], words: &[u32], k: usize) -> 
         ),
         34 => said_is(
             words,
-            match_number(verdict_ask::ask_match(row, q.place, m, s, q.syllable)),
+            verdict_ask::ask_match(row, q.place, m, s, q.syllable).map(|said| said as u32),
             k,
         ),
         _ => walk_is(
@@ -156,61 +144,28 @@ fn answered(q: Question, row: &[u32], sets: &[u16], words: &[u32], k: usize) -> 
     }
 }
 
-fn said_is(words: &[u32], said: u32, k: usize) -> Replayed {
+// An answer by its place in its list. A refusal is no answer of the original's.
+fn said_is(words: &[u32], said: Result<u32, IllShaped>, k: usize) -> Replayed {
     Replayed {
-        right: word(words, k) == said,
+        right: word(words, k) == said.unwrap_or(9),
         next: after(k, 1),
     }
 }
 
-// A refusal is no answer of the original's.
-fn skip_number(a: SkipAnswer) -> u32 {
-    match a {
-        SkipAnswer::Refused => 9,
-        SkipAnswer::Said(s) => match s {
-            MaySkip::No => 0,
-            MaySkip::Yes => 1,
-            MaySkip::Maybe => 2,
-        },
-    }
-}
-
-fn match_number(a: MatchAnswer) -> u32 {
-    match a {
-        MatchAnswer::Refused => 9,
-        MatchAnswer::Said(s) => match s {
-            MayMatch::No => 0,
-            MayMatch::Yes => 1,
-            MayMatch::Maybe => 2,
-        },
-    }
-}
-
-fn verdict_number(a: VerdictAnswer) -> u32 {
-    match a {
-        VerdictAnswer::Refused => 9,
-        VerdictAnswer::Said(s) => match s {
-            Verdict::Match => 0,
-            Verdict::NotMatch => 1,
-            Verdict::Skip => 2,
-        },
-    }
-}
-
-fn walk_is(words: &[u32], w: Walked, k: usize) -> Replayed {
-    match w {
-        Walked::Found(p) => three_are(words, 0, 0, p, k),
-        Walked::Stopped(e) => three_are(words, 4, 0, e, k),
-        Walked::RanOut(e) => three_are(words, 4, 1, e, k),
-        Walked::Refused => three_are(words, 1, 0, 0, k),
+fn walk_is(words: &[u32], walked: Result<Walked, IllShaped>, k: usize) -> Replayed {
+    match walked {
+        Ok(Walked::Found(p)) => three_are(words, 0, 0, p, k),
+        Ok(Walked::Stopped(e)) => three_are(words, 4, 0, e, k),
+        Ok(Walked::RanOut(e)) => three_are(words, 4, 1, e, k),
+        Err(IllShaped) => three_are(words, 1, 0, 0, k),
     }
 }
 
 fn three_are(words: &[u32], number: u32, ran_out: u32, place: usize, k: usize) -> Replayed {
     Replayed {
-        right: (word(words, k) == number)
-            & (word(words, after(k, 1)) == ran_out)
-            & (size(words, after(k, 2)) == place),
+        right: word(words, k) == number
+            && word(words, after(k, 1)) == ran_out
+            && size(words, after(k, 2)) == place,
         next: after(k, 3),
     }
 }

@@ -7,22 +7,22 @@ ghost use Rattle.io.specs.Counts.{IsPrefixLen};
 ghost use Rattle.stored.specs.Stored.{hex_digit, byte_at, word_from, stored_word, number_at, part_between, span_from, settings_from, slot_is};
 ghost use Rattle.bits.specs.Bits.{every};
 
-use verdict::Settings;
+use verdict::{Settings, Table};
 
 // Room for the bytes of a whole list, and for its words.
 pub const TEXT: usize = 2097152;
 
 pub const WORDS_OF_A_LIST: usize = TEXT / 9;
 
-// A list of a line: its first word and the word after it.
-#[derive(Clone, Copy)]
+// A list of a line: its first word and the word after it. A damaged list's may lie past the words; no part stands there (`part`).
+#[derive(Clone, Copy, Debug, PartialEq, Eq)]
 pub struct Span {
     pub from: usize,
     pub to: usize,
 }
 
 // A line that was replayed: whether our answer was the stored one, and where the next line begins.
-#[derive(Clone, Copy)]
+#[derive(Clone, Copy, Debug, PartialEq, Eq)]
 pub struct Replayed {
     pub right: bool,
     pub next: usize,
@@ -45,10 +45,29 @@ pub fn word_room() -> [u32; WORDS_OF_A_LIST] {
     [0; WORDS_OF_A_LIST]
 }
 
-// Words and then a number, on standard output.
-pub fn say(words: &[u8], n: u64) {
-    io::write_all(1, words);
-    io::print_decimal(1, n);
+// What a list's lines come to: each is replayed at its first word, is counted, and says where the next begins.
+pub trait Tally: Default {
+    fn replay_line(&mut self, words: &[u32], at: usize) -> usize;
+}
+
+// The list on standard input, replayed.
+pub fn replay_input<T: Tally>() -> T {
+    let mut words = word_room();
+    let count = read_list(&mut words);
+    replay(&words, count)
+}
+
+// A line takes no less than a word, so there are no more lines than words.
+pub fn replay<T: Tally>(words: &[u32], count: usize) -> T {
+    let mut tally = T::default();
+    let mut at = 0;
+    for _ in 0..count {
+        if count <= at {
+            break;
+        }
+        at = tally.replay_line(words, at);
+    }
+    tally
 }
 
 // The words of a text, as far as they fit, and how many there are. What stands past them stays.
@@ -56,11 +75,9 @@ pub fn decode(text: &[u8], words: &mut [u32]) -> usize
     ensures { (result ≡ min (length text.now / 9) (length words.old))
         × ((k : ℕ) → slice_index words.new k ≡ (if nat_lt k result then stored_word text.now k else slice_index words.old k)) }
 {
-    let n = least(text.len() / 9, words.len());
-    let mut k = 0;
-    while k < n {
+    let n = words.len().min(text.len() / 9);
+    for k in 0..n {
         words[k] = eight(text, k * 9);
-        k += 1;
     }
     n
 }
@@ -77,27 +94,18 @@ pub fn number(words: &[u32], k: usize) -> u64
     ensures { result ≡ number_at words.now k }
 {
     if k < words.len() {
-        wide(word(words, k)) * 4294967296 + wide(word(words, k + 1))
+        word(words, k) as u64 * 4294967296 + word(words, k + 1) as u64
     } else {
         0
     }
-}
-
-fn wide(x: u32) -> u64
-    ensures { (result ≡ x) × (result < 4294967296) }
-{
-    x as u64
 }
 
 // The words from one place up to another, and none where there is no such part.
 pub fn part(words: &[u32], from: usize, to: usize) -> &[u32]
     ensures { result.now ≡ part_between from to words.now }
 {
-    if words.len() < to {
-        return &words[0..0];
-    }
-    if to < from {
-        return &words[0..0];
+    if words.len() < to || to < from {
+        return &[];
     }
     &words[from..to]
 }
@@ -106,17 +114,13 @@ pub fn part(words: &[u32], from: usize, to: usize) -> &[u32]
 pub fn more(n: u64, so: bool) -> u64
     ensures { result ≡ (if so then (n + 1) % 2 ^ 64 else n) }
 {
-    if so {
-        std::num::wrapping_add_u64(n, 1)
-    } else {
-        n
-    }
+    if so { n.wrapping_add(1) } else { n }
 }
 
 pub fn after(at: usize, n: usize) -> usize
     ensures { result ≡ (at + n) % 2 ^ 64 }
 {
-    std::num::wrapping_add_usize(at, n)
+    at.wrapping_add(n)
 }
 
 // Word k, as a place or a number of things.
@@ -148,7 +152,7 @@ pub fn settings_at(words: &[u32], k: usize) -> Settings
     ensures { result ≡ settings_from words.now k }
 {
     Settings {
-        table: verdict::table_of(word(words, k) == 1),
+        table: Table::from(word(words, k) == 1),
         zwnj: word(words, after(k, 1)) == 1,
         zwj: word(words, after(k, 2)) == 1,
         syllables: word(words, after(k, 3)) == 1,
@@ -159,20 +163,12 @@ pub fn settings_at(words: &[u32], k: usize) -> Settings
 pub fn slots_are(words: &[u32], positions: &[u16; 64], from: usize, count: usize) -> bool
     ensures { result ≡ every 64 (slot_is words.now positions.now from count) }
 {
-    let mut k = 0;
-    while k < 64 {
-        if wanted(words, from, k, count) != wide_slot(positions[k]) {
+    for k in 0..64 {
+        if wanted(words, from, k, count) != positions[k] as u32 {
             return false;
         }
-        k += 1;
     }
     true
-}
-
-fn wide_slot(x: u16) -> u32
-    ensures { result ≡ x }
-{
-    x as u32
 }
 
 fn wanted(words: &[u32], from: usize, k: usize, count: usize) -> u32
@@ -191,19 +187,11 @@ pub fn narrow(words: &[u32], out: &mut [u16]) -> usize
     ensures value { result ≡ min (length words.now) (length out.old) }
     ensures by_index { (k : ℕ) → slice_index out.new k ≡ (if nat_lt k result then slice_index words.now k % 65536 else slice_index out.old k) }
 {
-    let n = least(words.len(), out.len());
-    let mut k = 0;
-    while k < n {
+    let n = words.len().min(out.len());
+    for k in 0..n {
         out[k] = (words[k] % 65536) as u16;
-        k += 1;
     }
     n
-}
-
-fn least(a: usize, b: usize) -> usize
-    ensures { result ≡ min a b }
-{
-    if a < b { a } else { b }
 }
 
 // The eight digits from byte i on.

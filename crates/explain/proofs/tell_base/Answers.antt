@@ -7,5 +7,5 @@ use Rattle.explain.proofs.tell_base.Goals as goal
 pub read-g-requires : goal.read-g-requires
 read-g-requires c = let a = c.args in
     let gs = glyphs_of a.searched.now in
-    ((base_found a.id gs (length gs) c.in-At.j).0 (sym c.find_base.ensures
-    ∙ c.in-At.is)).inside
+    ((base_found a.id gs (length gs) c.in-Some.j).0 (sym c.find_base.ensures
+    ∙ c.in-Some.is)).inside

@@ -1,4 +1,3 @@
--- A turn decodes one word more. Assumes nothing.
 use Rattle.std.proofs.Common.{arith, length-set}
 use Rattle.stored.specs.Stored.{stored_word}
 use Rattle.stored.proofs.Filled.{filled_more}
@@ -7,8 +6,7 @@ use Rattle.stored.proofs.decode.Goals as goal
 pub loop-k-preserved : goal.loop-k-preserved
 unfolding stored_word
 loop-k-preserved c = let a = c.args in let l = c.loop-k in (
-  omega arith,
-  simp length-set l.invariant.1,
-  filled_more l.words a.words.now (stored_word a.text.now) l.k c.eight.result
-      (omega (arith, c.least-n.ensures)) l.invariant.2 c.eight.ensures,
+  simp length-set l.invariant.0,
+  filled_more l.words a.words.now (stored_word a.text.now) l.k c.eight.result (omega (arith, l.invariant.0, c.min-n.ensures)) l.invariant.1
+      c.eight.ensures,
 )

@@ -5,16 +5,16 @@ use Rattle.stored.specs.Stored.{slot_is}
 use Rattle.stored.proofs.slots_are.Goals as goal
 
 pub loop-k-init : goal.loop-k-init
-loop-k-init c = (omega arith, every_none _)
+loop-k-init c = every_none _
 
-pub returns-then-wanted-wide_slot : goal.returns-then-wanted-wide_slot
-returns-then-wanted-wide_slot c = let l = c.loop-k in
+pub returns-then-wanted-positions : goal.returns-then-wanted-positions
+returns-then-wanted-positions c = let l = c.loop-k in
     let a = c.args in
     sym (every_not (slot_is a.words.now a.positions.now a.from a.count) 64 l.k (omega arith)
-    (ne_eqb _ _ (λ e. c.if-wanted-wide_slot.true (c.wanted.ensures ∙ e ∙ sym c.wide_slot.ensures))))
+    (ne_eqb _ _ (λ e. c.if-wanted-positions.true (c.wanted.ensures ∙ e))))
 
 pub loop-k-preserved : goal.loop-k-preserved
 loop-k-preserved c = let l = c.loop-k in
     let a = c.args in
-    let same = sym c.wanted.ensures ∙ c.if-wanted-wide_slot.false ∙ c.wide_slot.ensures in
-    (omega arith, every_more (slot_is a.words.now a.positions.now a.from a.count) l.k true l.invariant.1 (sym (eq-eqb _ _ same)) refl)
+    let same = sym c.wanted.ensures ∙ c.if-wanted-positions.false in
+    every_more (slot_is a.words.now a.positions.now a.from a.count) l.k true l.invariant (sym (eq-eqb _ _ same)) refl
