@@ -76,11 +76,17 @@ pub record Sized (ws : List ℕ) (at s : ℕ) (o : Option Entry) : Type 0 where
   pub it : Entry
   pub is : o ≡ Some it
   pub on : step_at ws at ≡ s
+  pub some : 0 < s
 
 some_by : (ws : List ℕ) (at s : ℕ) (o : Option Entry) → entry_at ws at ≡ o → size_at ws at ≡ Some s → Sized ws at s o
 unfolding size_at
 some_by ws at s None m e = let z : ◌≡◌ {A = ℕ} 0 1 = cc (rw m at e) in absurd (omega arith)
-some_by ws at s (Some x) m e = record { it = x; is = refl; on = ap (λ (z : Option ℕ). unwrap_or z 0) e }
+some_by ws at s (Some x) m e = record {
+  it = x;
+  is = refl;
+  on = ap (λ (z : Option ℕ). unwrap_or z 0) e;
+  some = omega (arith, ap (λ (z : Option ℕ). unwrap_or z 0) (rw m at e));
+}
 
 pub size_some : (ws : List ℕ) (at s : ℕ) → size_at ws at ≡ Some s → Sized ws at s (entry_at ws at)
 size_some ws at s e = some_by ws at s (entry_at ws at) refl e

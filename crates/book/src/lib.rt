@@ -190,7 +190,7 @@ fn counted_at(words: &[u16], x: usize, each: usize, most: usize) -> Option<Part>
 }
 
 // The values of a part, widened for a matcher; unused slots are 0.
-#[tactic(auto, using(crate::specs::Widened::widen_more, crate::specs::Widened::widened_is))]
+#[tactic(auto, using(crate::specs::Widened::widened_is))]
 pub fn widen(values: &[u16]) -> [u32; SIDE]
     requires { length values.now ≤ most_side }
     ensures { result ≡ widened values.now }

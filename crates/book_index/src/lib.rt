@@ -3,56 +3,38 @@
 
 ghost use Rattle.std.specs.Prelude.{◌≡◌};
 ghost use Rattle.book.specs.Book.{read_book, is_read};
-ghost use Rattle.book.specs.Places.{index_of, no_index};
+ghost use Rattle.book.specs.Places.{index_of};
 
 use book::{Index, LOOKUPS};
 
 pub const BOOK_WORDS: usize = 4096;
 
 // Whether a book reads: where it doesn't, refusal 11.
+#[tactic(auto, using(book::specs::Starts::index_reads))]
 pub fn reads(words: &[u16]) -> bool
     ensures { result ≡ is_read (read_book words.now) }
 {
-    let i = index_of(words);
-    i.reads
+    index_of(words).is_some()
 }
 
-// The book read once, from its first word to its last.
-pub fn index_of(words: &[u16]) -> Index
+// The book read once, from its first word to its last; none where it doesn't read.
+pub fn index_of(words: &[u16]) -> Option<Index>
     ensures { result ≡ index_of words.now }
 {
     if BOOK_WORDS < words.len() {
-        return nothing();
+        return None;
     }
     let mut starts = [0u16; LOOKUPS];
-    let mut n = 0;
+    let mut count = 0;
     let mut at = 0;
     while at < words.len() {
-        if n == LOOKUPS {
-            return nothing();
+        if count == LOOKUPS {
+            return None;
         }
-        let size = book::size_at(words, at);
-        if size == 0 {
-            return nothing();
-        }
-        starts[n] = at as u16;
-        n += 1;
+        let size = book::size_at(words, at)?;
+        starts[count] = at as u16;
+        count += 1;
         at += size;
     }
-    Index {
-        reads: true,
-        count: n,
-        starts: starts,
-    }
-}
-
-// The index of a book that doesn't read.
-fn nothing() -> Index
-    ensures { result ≡ no_index }
-{
-    Index {
-        reads: false,
-        count: 0,
-        starts: [0u16; LOOKUPS],
-    }
+    Some(Index { count, starts })
 }
