@@ -61,6 +61,7 @@ pub fn backward(
 }
 
 // What a walk is refused for.
+#[tactic(auto, unfolding(crate::specs::Calls::bad_walk))]
 fn is_bad_walk(row: &[u32], len: usize, place: usize, sets: &[u16]) -> bool
     ensures { result ≡ bad_walk row.now len place sets.now }
 {
@@ -101,12 +102,11 @@ pub fn forward_from(
 pub fn back_extent(p: usize) -> usize
     ensures { result ≡ max p 1 - 1 }
 {
-    if p == 0 { 0 } else { p - 1 }
+    p.saturating_sub(1)
 }
 
 // The backward walk: the next place to test is the one before `place`. A glyph that isn't skip Yes is read anew, so that the compiler loads only the
-// props of one that is. The first place is taken by `back_extent`, not by a subtraction like that at the end of a turn, and the row's beginning is
-// asked for last: the compiler then keeps one counter for the place and not two.
+// props of one that is.
 pub fn backward_from(
     row: &[u32],
     place: usize,
@@ -119,11 +119,7 @@ pub fn backward_from(
     requires { place ≤ length (glyphs_of row.now) }
     ensures { result ≡ walk_back (judge_at m (value_of sign lists.now) syllable sets.now (glyphs_of row.now)) place }
 {
-    let mut p = back_extent(place);
-    if place == 0 {
-        return Walked::RanOut(p); // which is 0
-    }
-    loop {
+    for p in (0..place).rev() {
         if !verdict_skip::is_skip_yes(m, sets, glyph::read(row, p)) {
             match verdict_match::on_rest(m, sign, lists, syllable, glyph::read(row, p)) {
                 Verdict::Match => return Walked::Found(p),
@@ -131,9 +127,6 @@ pub fn backward_from(
                 Verdict::Skip => {}
             }
         }
-        if p == 0 {
-            return Walked::RanOut(0);
-        }
-        p -= 1;
     }
+    Walked::RanOut(0)
 }

@@ -1,7 +1,7 @@
--- The walk back from where it began is the walk back from after p, the next place to test: what is between was passed over. Each turn tests one
+-- The walk back from where it began is the walk back from p, after the next place to test: what is between was passed over. Each turn tests one
 -- place.
 -- Assumes nothing.
-use Rattle.std.proofs.Common.{ap, arith, get_or, max, refl, sym, ℕ, true, false, ◌+◌, ◌-◌, ◌∙◌, ◌≡◌}
+use Rattle.std.proofs.Common.{ap, arith, get_or, refl, sym, ℕ, false, ◌-◌, ◌∙◌, ◌≡◌}
 use Rattle.glyph.specs.Glyph.{glyphs_of, blank}
 use Rattle.glyph.specs.declared.Glyph.{Glyph}
 use Rattle.verdict.specs.declared.Verdict.{Verdict}
@@ -9,22 +9,11 @@ use Rattle.verdict.specs.declared.Verdict.TheVariants.{Skip}
 use Rattle.verdict.specs.Verdict.{value_of, skip_yes, judge_at}
 use Rattle.verdict.specs.Rest.{rest_of}
 use Rattle.verdict.specs.Laws.{judged_yes, judged_rest}
-use Rattle.walk.specs.declared.Walked.TheVariants.{Stopped, RanOut}
+use Rattle.walk.specs.declared.Walked.TheVariants.{Stopped}
 use Rattle.walk.specs.Walk.{on_verdict_back, walk_back}
 use Rattle.walk.specs.Steps.{back_on_by, back_end}
 use Rattle.walk.proofs.backward_from.Goals as goal
-use Rattle.walk.proofs.backward_from.Goals.{After-is_skip_yes, then-not-is_skip_yes+in-Skip, else-not-is_skip_yes}
-
-pub returns-then-place-eq0 : goal.returns-then-place-eq0
-returns-then-place-eq0 c = let a = c.args in
-    let v = judge_at a.m (value_of a.sign a.lists.now) a.syllable a.sets.now (glyphs_of a.row.now) in
-    ap RanOut (c.back_extent-p.ensures ∙ ap (λ n. max n 1 - 1) c.if-place-eq0.true) ∙ sym (back_end v a.place c.if-place-eq0.true)
-
-pub loop-m-init : goal.loop-m-init
-loop-m-init c = let a = c.args in
-    let v = judge_at a.m (value_of a.sign a.lists.now) a.syllable a.sets.now (glyphs_of a.row.now) in
-    let s : a.place ≡ c.back_extent-p.result + 1 = omega (arith, c.back_extent-p.ensures) in
-    (omega (arith, s), ap (walk_back v) s)
+use Rattle.walk.proofs.backward_from.Goals.{After-is_skip_yes}
 
 module _ (c : After-is_skip_yes) where
   abbrev judge : ℕ → Verdict
@@ -33,15 +22,15 @@ module _ (c : After-is_skip_yes) where
       judge_at a.m (value_of a.sign a.lists.now) a.syllable a.sets.now (glyphs_of a.row.now)
 
   abbrev tested : ℕ
-  tested = c.loop-m.p
+  tested = c.loop-p.p - 1
 
   -- a turn whose verdict is r
   turn : (r : Verdict) → judge tested ≡ r
       → walk_back judge c.args.place
       ≡ on_verdict_back r tested (walk_back judge tested)
   turn r e =
-      let l = c.loop-m in
-      l.invariant.1 ∙ back_on_by judge (l.p + 1) tested (omega arith) r e
+      let l = c.loop-p in
+      l.invariant ∙ back_on_by judge l.p tested (omega arith) r e
 
   -- what was asked of the glyph that was read
   asked :
@@ -63,14 +52,6 @@ module _ (c : After-is_skip_yes) where
       (said ∙ ap (rest_of a.m (value_of a.sign a.lists.now) a.syllable) read)
       ∙ e
 
-  -- where it is, it is passed over
-  skips : c.is_skip_yes.result ≡ true → judge tested ≡ Skip
-  skips skipped =
-      let a = c.args in
-      let gs = glyphs_of a.row.now in
-      judged_yes a.m (value_of a.sign a.lists.now) a.syllable a.sets.now gs tested (get_or gs tested blank)
-      c.is_skip_yes.result refl asked skipped
-
 pub returns-in-Match : goal.returns-in-Match
 returns-in-Match c =
     let at_asked = (goal.at.returns-in-Match c).After-is_skip_yes in
@@ -82,23 +63,22 @@ returns-in-NotMatch c =
     ap Stopped c.back_extent.ensures
     ∙ sym (turn at_asked _ (told at_asked _ _ _ c.if-not-is_skip_yes.true c.read-then-not-is_skip_yes.ensures c.on_rest.ensures c.in-NotMatch.is))
 
-pub returns-then-p-eq0 : goal.returns-then-p-eq0
-returns-then-p-eq0 c =
-    let at_asked = (goal.at.returns-then-p-eq0 c).After-is_skip_yes in
-    let skipped : judge at_asked (tested at_asked) ≡ Skip = elim c.if-not-is_skip_yes.branch [
-      | then-not-is_skip_yes+in-Skip w ↦ told at_asked _ _ _ w.if-not-is_skip_yes.true w.read-then-not-is_skip_yes.ensures w.on_rest.ensures
-          w.in-Skip.is
-      | else-not-is_skip_yes w ↦ skips at_asked w.if-not-is_skip_yes.false
-    ] in
-    sym (turn at_asked Skip skipped ∙ back_end (judge at_asked) (tested at_asked) c.if-p-eq0.true)
+pub loop-p-preserved-in-Skip : goal.loop-p-preserved-in-Skip
+loop-p-preserved-in-Skip c =
+    let at_asked = (goal.at.loop-p-preserved-in-Skip c).After-is_skip_yes in
+    turn at_asked _ (told at_asked _ _ _ c.if-not-is_skip_yes.true c.read-then-not-is_skip_yes.ensures c.on_rest.ensures c.in-Skip.is)
 
-pub loop-m-preserved : goal.loop-m-preserved
-loop-m-preserved c =
-    let at_asked = (goal.at.loop-m-preserved c).After-is_skip_yes in
-    let skipped : judge at_asked (tested at_asked) ≡ Skip = elim c.if-not-is_skip_yes.branch [
-      | then-not-is_skip_yes+in-Skip w ↦ told at_asked _ _ _ w.if-not-is_skip_yes.true w.read-then-not-is_skip_yes.ensures w.on_rest.ensures
-          w.in-Skip.is
-      | else-not-is_skip_yes w ↦ skips at_asked w.if-not-is_skip_yes.false
-    ] in
-    let s : tested at_asked ≡ tested at_asked - 1 + 1 = omega arith in
-    (omega arith, turn at_asked Skip skipped ∙ ap (walk_back (judge at_asked)) s)
+-- a glyph that is skip Yes is passed over
+pub loop-p-preserved : goal.loop-p-preserved
+loop-p-preserved c =
+    let at_asked = (goal.at.loop-p-preserved c).After-is_skip_yes in
+    let a = c.args in
+    let gs = glyphs_of a.row.now in
+    let i = tested at_asked in
+    turn at_asked Skip (judged_yes a.m (value_of a.sign a.lists.now) a.syllable a.sets.now gs i (get_or gs i blank)
+    c.is_skip_yes.result refl (asked at_asked) c.if-not-is_skip_yes.false)
+
+pub returns : goal.returns
+returns c = let a = c.args in
+    let v = judge_at a.m (value_of a.sign a.lists.now) a.syllable a.sets.now (glyphs_of a.row.now) in
+    sym (c.loop-p.invariant ∙ back_end v c.loop-p.p (omega arith))
