@@ -4,32 +4,28 @@
 ghost use Rattle.std.specs.Prelude.{◌≡◌, cond};
 ghost use Rattle.verdict.specs.declared.Verdict.{Verdict};
 ghost use Rattle.verdict.specs.declared.MaySkip.{MaySkip};
-ghost use Rattle.verdict.specs.Verdict.{ruled_out, yes_if, is_yes, value_of, match_of, verdict, verdict_of};
+ghost use Rattle.verdict.specs.Verdict.{ruled_out, is_yes, value_of, match_of, verdict, verdict_of};
 ghost use Rattle.verdict.specs.Rest.{rest_of};
 
 use glyph::Glyph;
 use verdict::{Matcher, MayMatch, Sign, Test, Verdict};
 
 // The mask or the syllable rules the glyph out.
+#[tactic(auto, unfolding(verdict::specs::Verdict::ruled_out))]
 fn is_ruled_out(m: Matcher, syllable: u8, g: Glyph) -> bool
     ensures { result ≡ ruled_out m syllable g }
 {
     (g.mask & m.mask == 0) | (m.syllabic & (syllable != 0) & (syllable != g.syllable))
 }
 
-fn yes_if(b: bool) -> MayMatch
-    ensures { result ≡ yes_if b }
-{
-    if b { MayMatch::Yes } else { MayMatch::No }
-}
-
 // The value alone.
+#[tactic(auto, unfolding(verdict::specs::Verdict::value_by))]
 fn on_value(sign: Sign, lists: &[u16], g: Glyph) -> MayMatch
     ensures { result ≡ value_of sign lists.now g }
 {
-    let test = sign.test;
-    match test {
-        Test::Equal => yes_if(g.id == sign.value),
+    match sign.test {
+        Test::Equal if g.id == sign.value => MayMatch::Yes,
+        Test::Equal => MayMatch::No,
         Test::Any => MayMatch::Yes,
         Test::Nothing => MayMatch::Maybe,
     }
@@ -39,13 +35,10 @@ fn on_value(sign: Sign, lists: &[u16], g: Glyph) -> MayMatch
 pub fn is_value(sign: Sign, lists: &[u16], g: Glyph) -> bool
     ensures { result ≡ is_yes (value_of sign lists.now g) }
 {
-    match on_value(sign, lists, g) {
-        MayMatch::Yes => true,
-        MayMatch::No => false,
-        MayMatch::Maybe => false,
-    }
+    on_value(sign, lists, g) == MayMatch::Yes
 }
 
+#[tactic(auto, unfolding(verdict::specs::Verdict::match_of))]
 pub fn may_match(m: Matcher, sign: Sign, lists: &[u16], syllable: u8, g: Glyph) -> MayMatch
     ensures { result ≡ match_of m (value_of sign lists.now) syllable g }
 {
@@ -55,25 +48,20 @@ pub fn may_match(m: Matcher, sign: Sign, lists: &[u16], syllable: u8, g: Glyph) 
     on_value(sign, lists, g)
 }
 
-// An ignorable glyph is passed over.
-fn pass_or(ignorable: bool, other: Verdict) -> Verdict
-    ensures { result ≡ cond ignorable Verdict.Skip other }
-{
-    if ignorable { Verdict::Skip } else { other }
-}
-
 // The verdict where skip is Maybe (an ignorable glyph) or No.
 fn weigh(ignorable: bool, m: MayMatch) -> Verdict
     ensures { result ≡ verdict_of (cond ignorable MaySkip.Maybe MaySkip.No) m }
 {
     match m {
-        MayMatch::No => pass_or(ignorable, Verdict::NotMatch),
         MayMatch::Yes => Verdict::Match,
-        MayMatch::Maybe => pass_or(ignorable, Verdict::Match),
+        _ if ignorable => Verdict::Skip,
+        MayMatch::No => Verdict::NotMatch,
+        MayMatch::Maybe => Verdict::Match,
     }
 }
 
 // The verdict on a glyph that isn't skip Yes.
+#[tactic(auto, unfolding(verdict::specs::Rest::rest_of))]
 pub fn on_rest(m: Matcher, sign: Sign, lists: &[u16], syllable: u8, g: Glyph) -> Verdict
     ensures { result ≡ rest_of m (value_of sign lists.now) syllable g }
 {
@@ -84,6 +72,7 @@ pub fn on_rest(m: Matcher, sign: Sign, lists: &[u16], syllable: u8, g: Glyph) ->
 }
 
 // The verdict on a glyph.
+#[tactic(auto, using(verdict::specs::Laws::verdict_yes, verdict::specs::Laws::verdict_rest))]
 pub fn judge(m: Matcher, sign: Sign, lists: &[u16], syllable: u8, sets: &[u16], g: Glyph) -> Verdict
     ensures { result ≡ verdict m (value_of sign lists.now) syllable sets.now g }
 {
