@@ -5,9 +5,10 @@ ghost use Rattle.std.specs.Prelude.{◌&&◌, ◌||◌, ◌≡◌, ℕ, ◌%◌,
 ghost use Rattle.bits.specs.Bits.{bit, every, some};
 ghost use Rattle.mask.specs.Mask.{round};
 
-pub const ALL: u64 = 0xffff_ffff_ffff_ffff;
+pub const ALL: u64 = u64::MAX;
 
 // The mask with a number's bit set too.
+#[tactic(auto, using(bits::proofs::Laws::or_bit, bits::proofs::Laws::power_bit, bits::proofs::Laws::shifted))]
 pub fn with(mask: u64, n: u32) -> u64
     ensures { (k : ℕ) → bit k result ≡ (bit k mask || eqb k (n % 64)) }
 {
