@@ -9,19 +9,20 @@ ghost use Rattle.digest.specs.Digest.{added, added_all, ranged, every_bit, range
 
 const SHIFTS: [u32; 3] = [4, 0, 6];
 
-#[derive(Clone, Copy)]
+#[derive(Clone, Copy, Debug, PartialEq, Eq)]
 pub struct SetDigest {
     pub masks: [u64; 3],
 }
 
-// A digest to which a range was added, and what adding it answers.
-#[derive(Clone, Copy)]
+// A digest to which a range was added, and what adding it answers. A struct, since both are there whatever the answer.
+#[derive(Clone, Copy, Debug, PartialEq, Eq)]
 pub struct Ranged {
     pub digest: SetDigest,
     pub yes: bool,
 }
 
 impl SetDigest {
+    #[tactic(auto, using(bits::proofs::Laws::zero_bit))]
     pub fn new() -> Self
         ensures { Says result none_set }
     {
@@ -48,10 +49,8 @@ impl SetDigest {
         let old = self.masks;
         let others = other.masks;
         let mut masks = [0; 3];
-        let mut i = 0;
-        while i < 3 {
+        for i in 0..3 {
             masks[i] = old[i] | others[i];
-            i += 1;
         }
         SetDigest { masks }
     }
@@ -61,10 +60,8 @@ impl SetDigest {
     {
         let old = self.masks;
         let mut masks = [0; 3];
-        let mut i = 0;
-        while i < 3 {
+        for i in 0..3 {
             masks[i] = mask::with(old[i], shifted(i, g));
-            i += 1;
         }
         SetDigest { masks }
     }
@@ -73,10 +70,8 @@ impl SetDigest {
         ensures { Says result (added_all array.now (bits_of self)) }
     {
         let mut digest = self;
-        let mut i = 0;
-        while i < array.len() {
-            digest = digest.add(array[i]);
-            i += 1;
+        for &g in array {
+            digest = digest.add(g);
         }
         digest
     }
@@ -93,11 +88,9 @@ impl SetDigest {
         let old = self.masks;
         let mut masks = [0; 3];
         let mut yes = false;
-        let mut i = 0;
-        while i < 3 {
+        for i in 0..3 {
             masks[i] = old[i] | range_of(i, a, b);
-            yes = yes | !is_wide(i, a, b);
-            i += 1;
+            yes |= !is_wide(i, a, b);
         }
         Ranged {
             digest: SetDigest { masks },
@@ -121,12 +114,10 @@ impl SetDigest {
     {
         let masks = self.masks;
         let others = other.masks;
-        let mut i = 0;
-        while i < 3 {
+        for i in 0..3 {
             if !mask::meet(masks[i], others[i]) {
                 return false;
             }
-            i += 1;
         }
         true
     }
@@ -135,13 +126,10 @@ impl SetDigest {
     fn is_full(self) -> bool
         ensures { result ≡ every_bit (bits_of self) }
     {
-        let masks = self.masks;
-        let mut i = 0;
-        while i < 3 {
-            if !mask::is_full(masks[i]) {
+        for i in 0..3 {
+            if !mask::is_full(self.masks[i]) {
                 return false;
             }
-            i += 1;
         }
         true
     }
@@ -160,7 +148,7 @@ fn is_wide(i: usize, a: u32, b: u32) -> bool
     requires { i < 3 }
     ensures { result ≡ wide i a b }
 {
-    63 <= std::num::wrapping_sub_u64(shifted(i, b) as u64, shifted(i, a) as u64)
+    (shifted(i, b) as u64).wrapping_sub(shifted(i, a) as u64) >= 63
 }
 
 // The bits that a range sets in mask i.

@@ -19,21 +19,21 @@ returns-then-is_full c = let d = c.args in
     )
 
 pub loop-i-init : goal.loop-i-init
-loop-i-init c = (omega arith, refl, noted_none _, λ j k h l. absurd (omega arith))
+loop-i-init c = record { three = refl; noted = noted_none _; made = λ j k h l. absurd (omega arith) }
 
 pub loop-i-preserved : goal.loop-i-preserved
 unfolding ranged
 loop-i-preserved c =
     let l = c.loop-i in
-    let d = c.args in (
-      omega arith,
-      simp length-set l.invariant.1,
-      noted_more (λ j. wide j d.a d.b) l.i l.yes c.is_wide.result l.invariant.2 c.is_wide.ensures,
-      made_more l.masks (ranged d.a d.b (λ j k. bit k (get_or d.self.masks j 0))) l.i _ (omega arith) l.invariant.3
+    let d = c.args in
+    record {
+      three = simp length-set l.invariant.three;
+      noted = noted_more (λ j. wide j d.a d.b) l.i l.yes c.is_wide.result l.invariant.noted c.is_wide.ensures;
+      made = made_more l.masks (ranged d.a d.b (λ j k. bit k (get_or d.self.masks j 0))) l.i _ (omega arith) l.invariant.made
           (λ k h.
           or_bit k (get_or d.self.masks l.i 0) c.range_of.result
-          ∙ ap (λ (t : Bool). bit k (get_or d.self.masks l.i 0) || t) (c.range_of.ensures k h)),
-    )
+          ∙ ap (λ (t : Bool). bit k (get_or d.self.masks l.i 0) || t) (c.range_of.ensures k h));
+    }
 
 pub returns : goal.returns
 returns c =
@@ -41,6 +41,6 @@ returns c =
     let l = c.loop-i in
     let e : every_bit (bits_of d.self) ≡ false = sym c.is_full.ensures ∙ c.if-is_full.false in
     let three : l.i ≡ 3 = omega arith in (
-      λ i k h m. l.invariant.3 i k (omega arith) m,
-      l.invariant.2 ∙ rw (e, three),
+      λ i k h m. l.invariant.made i k (omega arith) m,
+      l.invariant.noted ∙ rw (e, three),
     )

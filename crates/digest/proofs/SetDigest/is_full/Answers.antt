@@ -6,7 +6,7 @@ use Rattle.bits.proofs.Laws.{every_none, every_more, every_done}
 use Rattle.digest.proofs.SetDigest.is_full.Goals as goal
 
 pub loop-i-init : goal.loop-i-init
-loop-i-init c = (omega arith, every_none _)
+loop-i-init c = every_none _
 
 pub returns-then-not-is_full : goal.returns-then-not-is_full
 returns-then-not-is_full c =
@@ -18,11 +18,9 @@ returns-then-not-is_full c =
 pub loop-i-preserved : goal.loop-i-preserved
 loop-i-preserved c =
     let l = c.loop-i in
-    let a = c.args in (
-      omega arith,
-      every_more (λ j. every 64 (λ k. bit k (get_or a.self.masks j 0))) l.i c.is_full.result l.invariant.1
-          c.is_full.ensures (ap not c.if-not-is_full.false),
-    )
+    let a = c.args in
+    every_more (λ j. every 64 (λ k. bit k (get_or a.self.masks j 0))) l.i c.is_full.result l.invariant
+    c.is_full.ensures (ap not c.if-not-is_full.false)
 
 pub returns : goal.returns
-returns c = every_done _ c.loop-i.i 3 (omega arith) c.loop-i.invariant.1
+returns c = every_done _ c.loop-i.i 3 (omega arith) c.loop-i.invariant

@@ -1,9 +1,6 @@
-use Rattle.std.proofs.Common.{◌≡◌, ◌-◌, ◌≤◌, true, get_or}
+use Rattle.std.proofs.Common.{◌≡◌, true, get_or}
 use Rattle.bits.specs.Bits.{bit, every}
 use Rattle.digest.proofs.SetDigest.is_full.Given as goal
 
 abbrev pub invariant-loop-i : goal.invariant-loop-i
-invariant-loop-i l = (l.i ≤ 3) × (every l.i (λ j. every 64 (λ k. bit k (get_or l.masks j 0))) ≡ true)
-
-abbrev pub decreases-loop-i : goal.decreases-loop-i
-decreases-loop-i l = 3 - l.i
+invariant-loop-i l = every l.i (λ j. every 64 (λ k. bit k (get_or l.self.masks j 0))) ≡ true

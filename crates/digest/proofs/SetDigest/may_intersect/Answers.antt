@@ -6,7 +6,7 @@ use Rattle.bits.proofs.Laws.{every_none, every_more, every_done}
 use Rattle.digest.proofs.SetDigest.may_intersect.Goals as goal
 
 pub loop-i-init : goal.loop-i-init
-loop-i-init c = (omega arith, every_none _)
+loop-i-init c = every_none _
 
 pub returns-then-not-meet : goal.returns-then-not-meet
 returns-then-not-meet c =
@@ -18,11 +18,9 @@ returns-then-not-meet c =
 pub loop-i-preserved : goal.loop-i-preserved
 loop-i-preserved c =
     let l = c.loop-i in
-    let a = c.args in (
-      omega arith,
-      every_more (λ j. some 64 (λ k. bit k (get_or a.self.masks j 0) && bit k (get_or a.other.masks j 0))) l.i
-          c.meet.result l.invariant.1 c.meet.ensures (ap not c.if-not-meet.false),
-    )
+    let a = c.args in
+    every_more (λ j. some 64 (λ k. bit k (get_or a.self.masks j 0) && bit k (get_or a.other.masks j 0))) l.i
+    c.meet.result l.invariant c.meet.ensures (ap not c.if-not-meet.false)
 
 pub returns : goal.returns
-returns c = every_done _ c.loop-i.i 3 (omega arith) c.loop-i.invariant.1
+returns c = every_done _ c.loop-i.i 3 (omega arith) c.loop-i.invariant
