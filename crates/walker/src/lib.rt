@@ -7,10 +7,11 @@ ghost use Rattle.verdict.specs.Verdict.{value_of};
 ghost use Rattle.walk.specs.Calls.{forward_of, backward_of};
 ghost use Rattle.walker.specs.Walker.{standing, place_after, nth_of};
 
+use glyph::IllShaped;
 use verdict::{Matcher, Sign};
 use walk::Walked;
 
-#[derive(Clone, Copy)]
+#[derive(Clone, Copy, Debug, PartialEq, Eq)]
 pub struct Walker<'a> {
     pub row: &'a [u32],
     pub place: usize,
@@ -38,21 +39,27 @@ pub fn next<'a>(
     sign: Sign,
     syllable: u8,
     sets: &[u16],
-) -> Walked
+) -> Result<Walked, IllShaped>
     ensures { result ≡ forward_of w.entry.row.now len w.entry.place m (value_of sign []) syllable sets.now }
 {
     walk::forward(w.row, len, w.place, m, sign, syllable, sets)
 }
 
 // Backward from where the walker stands.
-pub fn prev<'a>(w: Walker<'a>, m: Matcher, sign: Sign, syllable: u8, sets: &[u16]) -> Walked
+pub fn prev<'a>(
+    w: Walker<'a>,
+    m: Matcher,
+    sign: Sign,
+    syllable: u8,
+    sets: &[u16],
+) -> Result<Walked, IllShaped>
     ensures { result ≡ backward_of w.entry.row.now w.entry.place m (value_of sign []) syllable sets.now }
 {
     walk::backward(w.row, w.place, m, sign, syllable, sets)
 }
 
 // The walker after a step with this answer: at the place found, and else where it stood.
-pub fn follow<'a>(w: Walker<'a>, walked: Walked) -> Walker<'a>
+pub fn follow<'a>(w: Walker<'a>, walked: Result<Walked, IllShaped>) -> Walker<'a>
     ensures { result ≡ standing w.entry.row (place_after w.entry.place walked) }
 {
     Walker {
@@ -61,14 +68,12 @@ pub fn follow<'a>(w: Walker<'a>, walked: Walked) -> Walker<'a>
     }
 }
 
-fn place_after(place: usize, walked: Walked) -> usize
+fn place_after(place: usize, walked: Result<Walked, IllShaped>) -> usize
     ensures { result ≡ place_after place walked }
 {
     match walked {
-        Walked::Found(q) => q,
-        Walked::Stopped(_) => place,
-        Walked::RanOut(_) => place,
-        Walked::Refused => place,
+        Ok(Walked::Found(q)) => q,
+        _ => place,
     }
 }
 
@@ -81,7 +86,7 @@ pub fn step(
     sign: Sign,
     syllable: u8,
     sets: &[u16],
-) -> Walked
+) -> Result<Walked, IllShaped>
     ensures { result ≡ forward_of row.now len place m (value_of sign []) syllable sets.now }
 {
     next(new(row, place), len, m, sign, syllable, sets)
@@ -97,18 +102,15 @@ pub fn nth(
     sign: Sign,
     syllable: u8,
     sets: &[u16],
-) -> Walked
+) -> Result<Walked, IllShaped>
     ensures { result ≡ nth_of row.now len place n m (value_of sign []) syllable sets.now }
 {
     let mut at = place;
-    let mut left = n;
-    while 0 < left {
-        let walked = step(row, len, at, m, sign, syllable, sets);
-        let Walked::Found(q) = walked else {
-            return walked;
-        };
-        at = q;
-        left -= 1;
+    for _ in 0..n {
+        match step(row, len, at, m, sign, syllable, sets)? {
+            Walked::Found(q) => at = q,
+            walked => return Ok(walked),
+        }
     }
     step(row, len, at, m, sign, syllable, sets)
 }

@@ -1,11 +1,8 @@
-use Rattle.std.proofs.Common.{[], ◌≡◌}
+use Rattle.std.proofs.Common.{[], ◌-◌, ◌≡◌}
 use Rattle.verdict.specs.Verdict.{value_of}
 use Rattle.walker.specs.Walker.{nth_of}
 use Rattle.walker.proofs.nth.Given as goal
 
-abbrev pub invariant-loop-left : goal.invariant-loop-left
-invariant-loop-left l = nth_of l.row l.len l.place l.n l.m (value_of l.sign []) l.syllable l.sets
-    ≡ nth_of l.row l.len l.at l.left l.m (value_of l.sign []) l.syllable l.sets
-
-abbrev pub decreases-loop-left : goal.decreases-loop-left
-decreases-loop-left l = l.left
+abbrev pub invariant-loop : goal.invariant-loop
+invariant-loop l = nth_of l.row l.len l.place l.n l.m (value_of l.sign []) l.syllable l.sets
+    ≡ nth_of l.row l.len l.at (l.n - l.counter) l.m (value_of l.sign []) l.syllable l.sets
