@@ -405,7 +405,7 @@ TABLE = {
             match_input([5, glyph(9, flags=IGNORABLE), 7], [9]), K1_ANSWER, "Lost(3), 0 at []",
         ),
         "a_no_is_taken_for_a_yes": (is_value(9), "false", "true"),
-        "a_skip_yes_glyph_stops": (forward([5, mark(9), 7], props=8), "Found(2)", "Stopped(2)"),
+        "a_skip_yes_glyph_stops": (forward([5, mark(9), 7], props=8), "Ok(Found(2))", "Ok(Stopped(2))"),
         "any_is_no_test": (may_match(9, test=ANY), "Said(Yes)", "Said(Maybe)"),
         "no_test_is_a_yes": (may_match(7, test=NOTHING), "Said(Maybe)", "Said(Yes)"),
         "syllable_zero_is_tested": (may_match(glyph(7, syllable=2), syllable=0, syllables=True), "Said(Yes)", "Said(No)"),
@@ -430,54 +430,54 @@ TABLE = {
     },
     "walk_stretch": {
         "a_base_is_outside_the_set": (
-            forward([5] + [mark(8)] * 16 + [5] + [mark(8)] * 7 + [7], props=0x30010, sets=(3, 9)), "Stopped(18)", "RanOut(26)",
+            forward([5] + [mark(8)] * 16 + [5] + [mark(8)] * 7 + [7], props=0x30010, sets=(3, 9)), "Ok(Stopped(18))", "Ok(RanOut(26))",
         ),
         "a_block_has_the_bits_of_any_glyph": (
-            forward([5] + [mark(9)] * 7 + [5] + [mark(9)] * 16 + [7], props=8), "Stopped(9)", "Found(25)",
+            forward([5] + [mark(9)] * 7 + [5] + [mark(9)] * 16 + [7], props=8), "Ok(Stopped(9))", "Ok(Found(25))",
         ),
         "a_digest_is_of_the_other_sets": (
-            forward([5] + [mark(8)] * 8 + [mark(9)] * 16 + [7], props=0x30010, sets=(3, 9)), "Stopped(10)", "Found(25)",
+            forward([5] + [mark(8)] * 8 + [mark(9)] * 16 + [7], props=0x30010, sets=(3, 9)), "Ok(Stopped(10))", "Ok(Found(25))",
         ),
         "a_long_walk_backward_begins_at_the_rows_start": (
-            backward([mark(9)] * 36 + [5] + [mark(9)] * 3, 40, props=8), "Stopped(35)", "RanOut(0)",
+            backward([mark(9)] * 36 + [5] + [mark(9)] * 3, 40, props=8), "Ok(Stopped(35))", "Ok(RanOut(0))",
         ),
         "a_long_walk_forward_begins_at_the_rows_end": (
-            forward([5] + [mark(9)] * 3 + [5] + [mark(9)] * 36 + [7], props=8), "Stopped(5)", "Found(41)",
+            forward([5] + [mark(9)] * 3 + [5] + [mark(9)] * 36 + [7], props=8), "Ok(Stopped(5))", "Ok(Found(41))",
         ),
         "a_long_walk_has_half_the_sets": (
-            backward([7] + [mark(9)] * 24, 25, props=0x30010, sets=(3, 8, 3, 9)), "Stopped(23)", "Found(0)",
+            backward([7] + [mark(9)] * 24, 25, props=0x30010, sets=(3, 8, 3, 9)), "Ok(Stopped(23))", "Ok(Found(0))",
         ),
         "marks_of_the_class_asked_are_passed": (
-            forward([5] + [glyph(9, props=MARK + 0x100)] * 24 + [7], props=0x100), "Stopped(2)", "Found(25)",
+            forward([5] + [glyph(9, props=MARK + 0x100)] * 24 + [7], props=0x100), "Ok(Stopped(2))", "Ok(Found(25))",
         ),
         "the_last_glyph_of_a_block_isnt_looked_at": (
-            forward([5] + [mark(9)] * 7 + [5] + [mark(9)] * 16 + [7], props=8), "Stopped(9)", "Found(25)",
+            forward([5] + [mark(9)] * 7 + [5] + [mark(9)] * 16 + [7], props=8), "Ok(Stopped(9))", "Ok(Found(25))",
         ),
         "what_the_digest_admits_is_outside": (
-            forward([5] + [mark(9)] * 24 + [7], props=0x30010, sets=(3, 9)), "Stopped(2)", "Found(25)",
+            forward([5] + [mark(9)] * 24 + [7], props=0x30010, sets=(3, 9)), "Ok(Stopped(2))", "Ok(Found(25))",
         ),
     },
     "walk": {
-        "a_place_past_len_is_walked_from": (forward([5], place=1, length=0), "Refused", "RanOut(2)"),
+        "a_place_past_len_is_walked_from": (forward([5], place=1, length=0), "Err(IllShaped)", "Ok(RanOut(2))"),
         "a_stop_in_a_part_is_one_early": (forward_in_part([5]), "Stopped(1)", "Stopped(0)"),
         "backward_forgets_the_starting_syllable": (
-            backward([glyph(7, syllable=2)], 1, syllable=1, syllables=True), "Stopped(0)", "Found(0)",
+            backward([glyph(7, syllable=2)], 1, syllable=1, syllables=True), "Ok(Stopped(0))", "Ok(Found(0))",
         ),
-        "run_out_backward_the_extent_is_the_place": (backward([mark(9)], 1, props=8), "RanOut(0)", "RanOut(1)"),
-        "the_extent_backward_is_the_place": (backward([5, 5], 1), "Stopped(0)", "Stopped(1)"),
-        "the_extent_is_the_place_that_stopped": (forward([5, 5]), "Stopped(2)", "Stopped(1)"),
-        "the_extent_of_running_out_is_the_length": (forward([5], place=1), "RanOut(2)", "RanOut(1)"),
-        "the_first_tested_is_the_place_itself": (forward([7, 5]), "Stopped(2)", "Found(0)"),
+        "run_out_backward_the_extent_is_the_place": (backward([mark(9)], 1, props=8), "Ok(RanOut(0))", "Ok(RanOut(1))"),
+        "the_extent_backward_is_the_place": (backward([5, 5], 1), "Ok(Stopped(0))", "Ok(Stopped(1))"),
+        "the_extent_is_the_place_that_stopped": (forward([5, 5]), "Ok(Stopped(2))", "Ok(Stopped(1))"),
+        "the_extent_of_running_out_is_the_length": (forward([5], place=1), "Ok(RanOut(2))", "Ok(RanOut(1))"),
+        "the_first_tested_is_the_place_itself": (forward([7, 5]), "Ok(Stopped(2))", "Ok(Found(0))"),
     },
     "walker": {  # its steps are proved by hand, and there an edit can change only the contract (docs/DECISIONS.md)
         "a_new_walker_stands_at_the_rows_start": CONTRACT,
         "a_walker_that_was_stopped_goes_to_the_extent": (
-            said(f"walker::follow(walker::new({rust(row([5, 5]))}, 0), walk::Walked::Stopped(2)).place"), "0", "2",
+            said(f"walker::follow(walker::new({rust(row([5, 5]))}, 0), Ok(walk::Walked::Stopped(2))).place"), "0", "2",
         ),
         "follow_leaves_the_walker_where_it_stood": CONTRACT,
         "next_walks_backward": CONTRACT,
-        "nth_leaves_out_a_step": (nth([5, 7, 7], 1), "Found(2)", "Found(1)"),
-        "nth_refuses_where_a_step_finds_none": (nth([5, 5], 1), "Stopped(2)", "Refused"),
+        "nth_leaves_out_a_step": (nth([5, 7, 7], 1), "Ok(Found(2))", "Ok(Found(1))"),
+        "nth_refuses_where_a_step_finds_none": (nth([5, 5], 1), "Ok(Stopped(2))", "Err(IllShaped)"),
         "prev_walks_forward": CONTRACT,
         "reset_leaves_the_walker_where_it_stood": CONTRACT,
         "the_plain_step_walks_backward": CONTRACT,
