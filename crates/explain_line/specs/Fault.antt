@@ -1,12 +1,12 @@
 -- What keeps a line from being a frame, as far as its digits tell (01, "The bench tape").
-use Rattle.std.specs.Prelude.{ℕ, zero, suc, ◌+◌, ◌-◌, ◌%◌, ◌≤◌, ◌<◌, ◌≡◌, refl, List, [], ◌∷◌, Bool, true, false, cond, ◌&&◌, ◌||◌, eqb, ltb, leb}
-use Rattle.std.specs.Prelude.{length, get_or, drop}
+use Rattle.std.specs.Prelude.{ℕ, zero, suc, ◌+◌, ◌-◌, ◌%◌, ◌≤◌, ◌<◌, ◌≡◌, refl, List, [], ◌∷◌, Bool, true, false, cond, ◌&&◌, eqb, ltb}
+use Rattle.std.specs.Prelude.{length, get_or, drop, not}
 use Rattle.std.proofs.Common.{sym, ◌∙◌, true≢false, arith, drop-cons, ltb-true, ltb-false, eqb-true, eq-eqb}
-use Rattle.std.specs.Bool.{beq}
+use Rattle.std.specs.Char.{is_ascii_hexdigit}
+use Rattle.std.specs.List.{position_or_len}
+use Rattle.std.proofs.lemmas.Bool.Decides.{nat_tests}
 use Rattle.std.proofs.Math.Bool.{and-false}
 use Rattle.std.proofs.Math.Numerals.{add-one}
-use Rattle.bits.specs.Bits.{every}
-use Rattle.bits.proofs.Laws.{every_at}
 use Rattle.tape_frame.specs.Digits.{digit, is_digit, spells}
 use Rattle.tape_frame.specs.DigitLaws.{spells_odd}
 use Rattle.tape_frame.specs.Frame.{not_frame, frame_of, most_digits}
@@ -36,19 +36,24 @@ module _ (line : List ℕ) (i : ℕ) where
   unfolding bad_from
   bad_end e = rw e
 
--- the digits by their ranges: a table of all bytes, which computes
-same : (a b : Bool) → beq a b ≡ true → a ≡ b
-same true true e = refl
-same true false e = sym e
-same false true e = e
-same false false e = refl
+-- the digits by their ranges, which are those of std's `is_ascii_hexdigit`
+pub digit_ranges : (b : ℕ) → is_ascii_hexdigit b ≡ is_digit b
+unfolding digit
+digit_ranges b = grind (arith, nat_tests)
 
-abbrev pub in_ranges : ℕ → Bool
-in_ranges b = ((leb 48 b && ltb b 58) || (leb 65 b && ltb b 71)) || (leb 97 b && ltb b 103)
+-- the first bad byte's place as std searches a list for it
+by_digit_place : (d : Bool) (rest : List ℕ) (i : ℕ) → bad_from rest (i + 1) ≡ i + 1 + position_or_len (λ b. not (is_ascii_hexdigit b)) rest
+    → cond d (bad_from rest (i + 1)) i ≡ i + cond (not (not d)) (1 + position_or_len (λ b. not (is_ascii_hexdigit b)) rest) 0
+by_digit_place true rest i e = e ∙ omega arith
+by_digit_place false rest i e = omega arith
 
-pub digit_ranges : (b : ℕ) → b < 256 → in_ranges b ≡ is_digit b
-unfolding every digit
-digit_ranges b h = same (in_ranges b) (is_digit b) (every_at (λ x. beq (in_ranges x) (is_digit x)) 256 b refl h)
+pub bad_place : (line : List ℕ) (i : ℕ) → bad_from line i ≡ i + position_or_len (λ b. not (is_ascii_hexdigit b)) line
+unfolding bad_from
+bad_place [] i = omega arith
+bad_place (b ∷ rest) i = rw (digit_ranges b) (by_digit_place (is_digit b) rest i (bad_place rest (i + 1)))
+
+pub bad_is : (line : List ℕ) → bad_from line 0 ≡ position_or_len (λ b. not (is_ascii_hexdigit b)) line
+bad_is line = let e = bad_place line 0 in omega arith
 
 -- ---- each fault is one
 

@@ -1,7 +1,7 @@
--- Words in a line: when there is room for the whole of them, what a line is that ends in them, and what is left of them to store, byte by byte.
-use Rattle.std.specs.Prelude.{ℕ, ◌+◌, ◌≤◌, ◌<◌, ◌≡◌, List, ◌∷◌, ◌++◌, length, get_or, take, drop}
-use Rattle.std.proofs.Common.{ap, ◌∙◌, add-one, drop-cons}
-use Rattle.tape_frame.specs.Put.{Puts, take_put}
+-- Words in a line: when there is room for the whole of them, and what a line is that ends in them.
+use Rattle.std.specs.Prelude.{ℕ, ◌+◌, ◌≤◌, ◌≡◌, List, ◌++◌, length, take, drop}
+use Rattle.std.proofs.Common.{ap, ◌∙◌, drop-drop}
+use Rattle.tape_frame.specs.Put.{put, Puts, take_put}
 
 -- the whole of the words fits into a line from a place on
 abbrev pub IsFitting : List ℕ → ℕ → List ℕ → Type 0
@@ -18,6 +18,7 @@ put_ends {line = line} {words = words} {line' = line'} {at = at} h p = record {
   whole = ap (λ (k : ℕ). take k line') p.ends ∙ ap (take (at + length words)) p.stored ∙ take_put line at words h;
 }
 
--- what is left of them to store, one byte further
-pub left_on : (words : List ℕ) (k : ℕ) → k < length words → drop k words ≡ get_or words k 0 ∷ drop (k + 1) words
-left_on words k h = rw (add-one k, drop-cons words k 0 h)
+-- what stands behind the words is dropped in one step, as it is dropped in two
+pub put_paste : (line words : List ℕ) (at k : ℕ) → k ≡ length words → put line at words ≡ take at line ++ (words ++ drop k (drop at line))
+unfolding put
+put_paste line words at k e = rw (e, drop-drop (length words) at line)

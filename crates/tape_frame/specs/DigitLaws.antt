@@ -1,7 +1,7 @@
 -- A line two digits at a time: what a turn of the code's loop does, and where it ends.
 use Rattle.std.specs.Prelude.{ℕ, suc, ◌+◌, ◌*◌, ◌/◌, ◌%◌, ◌≤◌, ◌<◌, ◌≡◌, refl, List, [], ◌∷◌, true, false, ◌&&◌, length, get_or, drop}
 use Rattle.std.proofs.Common.{ap, ◌∙◌, arith, lt-ltb, le-ltb, drop_of_length-le, drop-cons}
-use Rattle.std.specs.Char.{digit_value, is_ascii_hexdigit}
+use Rattle.std.specs.Char.{digit_value}
 use Rattle.std.proofs.lemmas.Bool.Decides.{nat_tests}
 use Rattle.std.proofs.Math.Bool.{and-false}
 use Rattle.tape_frame.specs.Digits.{no_digit, digit, is_digit, spells, bytes_of}
@@ -76,7 +76,3 @@ digit_told b h = grind (arith, nat_tests)
 pub digit_not : (b : ℕ) → ¬ (digit_value b < 16) → digit b ≡ no_digit
 unfolding digit
 digit_not b h = grind (arith, nat_tests)
-
-pub hex_digit : (b : ℕ) → is_ascii_hexdigit b ≡ is_digit b
-unfolding digit
-hex_digit b = grind (arith, nat_tests)
