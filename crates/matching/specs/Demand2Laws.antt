@@ -6,9 +6,9 @@ use mathlib.Core.List.{List, [], ◌∷◌}
 use Rattle.std.proofs.Math.Bool.{true, cond}
 use Rattle.verdict.specs.declared.Verdict.{Verdict}
 use Rattle.walk.specs.declared.Walked.{Walked}
-use Rattle.walk.specs.declared.Walked.TheVariants.{Found, Stopped, RanOut, Refused}
-use Rattle.walk.specs.Laws.{walk_means, walk_found, walk_stopped, walk_ran_out}
-use Rattle.walk.specs.Backward.{back_means, back_found, back_stopped, back_ran_out}
+use Rattle.walk.specs.declared.Walked.TheVariants.{Found, Stopped, RanOut}
+use Rattle.walk.specs.Laws.{walk_found, walk_stopped, walk_ran_out}
+use Rattle.walk.specs.Backward.{back_found, back_stopped, back_ran_out}
 use Rattle.matching.specs.Take.{Way, ahead, behind, walk_by, past, Outcome, taken, lost, unlike, having, on_walked, takes}
 use Rattle.matching.specs.Matchers.{anywhere}
 use Rattle.matching.specs.Demand2.{Takes, Fails, Accepts, no_value, more, Loses, fails, fails_later, TurnsDown, turned, turned_later, Demand2}
@@ -26,10 +26,6 @@ walk_stops behind v p extent e = inl ((back_stopped v p extent).0 e)
 walk_runs_out : (way : Way) (v : ℕ → Verdict) (p extent : ℕ) → walk_by way v p ≡ RanOut extent → Fails way v p extent
 walk_runs_out (ahead len) v p extent e = inr ((walk_ran_out v len p extent).0 e)
 walk_runs_out behind v p extent e = inr ((back_ran_out v p extent).0 e)
-
-walk_answers : (way : Way) (v : ℕ → Verdict) (p : ℕ) → walk_by way v p ≡ Refused → ⊥
-walk_answers (ahead len) v p e = (walk_means v len p Refused).0 e
-walk_answers behind v p e = (back_means v p Refused).0 e
 
 walk_fails : (way : Way) (v : ℕ → Verdict) (p extent : ℕ) → Fails way v p extent
     → (walk_by way v p ≡ Stopped extent) ⊎ (walk_by way v p ≡ RanOut extent)
@@ -62,7 +58,6 @@ module _ {X : Type 0} (way : Way) (v : X → ℕ → Verdict) (ok : ℕ → Bool
   by_walk p x xs (Found q) e s = by_rule p x q xs (ok q) (takes way v ok (past way q) xs) refl ((walk_takes way (v x) p q).0 e) (s q)
   by_walk p x xs (Stopped extent) e s = fails (walk_stops way (v x) p extent e)
   by_walk p x xs (RanOut extent) e s = fails (walk_runs_out way (v x) p extent e)
-  by_walk p x xs Refused e s = absurd (walk_answers way (v x) p e)
 
   sound : (p : ℕ) (xs : List X) → Says p xs (takes way v ok p xs)
   unfolding takes

@@ -12,7 +12,7 @@ use Rattle.glyph.specs.Glyph.{blank}
 use Rattle.verdict.specs.declared.Verdict.{Verdict}
 use Rattle.verdict.specs.declared.Verdict.TheVariants.{Skip}
 use Rattle.walk.specs.declared.Walked.{Walked}
-use Rattle.walk.specs.declared.Walked.TheVariants.{Found, Stopped, RanOut, Refused}
+use Rattle.walk.specs.declared.Walked.TheVariants.{Found, Stopped, RanOut}
 use Rattle.walk.specs.Walk.{on_verdict, walk_from, on_verdict_back, walk_back}
 use Rattle.walk.specs.Steps.{walk_on, back_on_by, back_end}
 use Rattle.matching.specs.declared.NoContext.{NoContext}
@@ -40,14 +40,12 @@ module _ (way : Way) where
     told_by (Found q) rest = told (past way q) rest
     told_by (Stopped extent) rest = Err (NoContext.Lost extent)
     told_by (RanOut extent) rest = Err (NoContext.Lost extent)
-    told_by Refused rest = Err (NoContext.Lost 0)
 
     by_walk : (p : ℕ) (w : Walked) (rest : List ℕ) → context_told way p (on_walked anywhere w (λ q. takes way v anywhere (past way q) rest))
         ≡ told_by w rest
     by_walk p (Found q) rest = told_rest p q (takes way v anywhere (past way q) rest)
     by_walk p (Stopped extent) rest = refl
     by_walk p (RanOut extent) rest = refl
-    by_walk p Refused rest = refl
 
     module _ (p i : ℕ) (values : List ℕ) where
       pub told_on : i < length values → told p (drop i values) ≡ told_by (walk_by way (v (get_or values i 0)) p) (drop (i + 1) values)

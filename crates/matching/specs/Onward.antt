@@ -6,7 +6,7 @@ use Rattle.verdict.specs.declared.Matcher.{Matcher}
 use Rattle.verdict.specs.declared.Verdict.{Verdict}
 use Rattle.verdict.specs.Verdict.{Asked, judge_at}
 use Rattle.walk.specs.declared.Walked.{Walked}
-use Rattle.walk.specs.declared.Walked.TheVariants.{Found, Stopped, RanOut, Refused}
+use Rattle.walk.specs.declared.Walked.TheVariants.{Found, Stopped, RanOut}
 use Rattle.walk.specs.Walk.{walk_from}
 use Rattle.walk.specs.Means.{Means}
 use Rattle.walk.specs.Laws.{walk_means}
@@ -16,13 +16,11 @@ abbrev pub WalkWithin : ℕ → Walked → Type 0
 WalkWithin len (Found q) = q < len
 WalkWithin len (Stopped extent) = extent ≤ len
 WalkWithin len (RanOut extent) = extent ≤ len
-WalkWithin len Refused = ⊥
 
 within_means : (v : ℕ → Verdict) (len next : ℕ) (r : Walked) → next ≤ len → Means v len next r → WalkWithin len r
 within_means v len next (Found q) h f = f.inside
 within_means v len next (Stopped extent) h f = let i = f.inside in let k = f.counts in omega arith
 within_means v len next (RanOut extent) h f = let k = f.counts in omega arith
-within_means v len next Refused h f = f
 
 pub walk_within : (v : ℕ → Verdict) (len next : ℕ) (r : Walked) → next ≤ len → r ≡ walk_from v len next → WalkWithin len r
 walk_within v len next r h e = within_means v len next r h ((walk_means v len next r).0 (sym e))

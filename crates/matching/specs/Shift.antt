@@ -13,9 +13,8 @@ use Rattle.verdict.specs.declared.Matcher.{Matcher}
 use Rattle.verdict.specs.declared.Verdict.{Verdict}
 use Rattle.verdict.specs.Verdict.{Asked, verdict}
 use Rattle.walk.specs.declared.Walked.{Walked}
-use Rattle.walk.specs.declared.Walked.TheVariants.{Found, Stopped, RanOut, Refused}
+use Rattle.walk.specs.declared.Walked.TheVariants.{Found, Stopped, RanOut}
 use Rattle.walk.specs.Walk.{walk_from}
-use Rattle.walk.specs.Laws.{walk_means}
 use Rattle.walk.specs.Parts.{raised, walk_shift, walk_same, back_same}
 use Rattle.matching.specs.declared.Terms.{Terms}
 use Rattle.matching.specs.Take.{Way, ahead, behind, walk_by, past, Outcome, taken, lost, unlike, having, on_walked, takes, reached}
@@ -44,7 +43,6 @@ module _ {X : Type 0} (way : Way) (u v : X → ℕ → Verdict) (ok ok' : ℕ �
   follow_same (Found q) f g e = ap₂ (λ (b : Bool) (o : Outcome). cond b (having (q ∷ []) o) unlike) (same' q) (e q)
   follow_same (Stopped extent) f g e = refl
   follow_same (RanOut extent) f g e = refl
-  follow_same Refused f g e = refl
 
   pub takes_same : (p : ℕ) (xs : List X) → takes way u ok p xs ≡ takes way v ok' p xs
   unfolding takes
@@ -74,12 +72,11 @@ module _ {X : Type 0} (v : X → ℕ → Verdict) (ok : ℕ → Bool) (start len
   by_rule q true o o' e = ap (having ((start + q) ∷ [])) e ∙ having_raised start q o'
   by_rule q false o o' e = refl
 
-  by_walk : (w : Walked) (f g : ℕ → Outcome) → (w ≡ Refused → ⊥) → ((q : ℕ) → f (start + q) ≡ raised_by start (g q))
+  by_walk : (w : Walked) (f g : ℕ → Outcome) → ((q : ℕ) → f (start + q) ≡ raised_by start (g q))
       → on_walked ok (raised start w) f ≡ raised_by start (on_walked ok' w g)
-  by_walk (Found q) f g n e = by_rule q (ok (start + q)) (f (start + q)) (g q) (e q)
-  by_walk (Stopped extent) f g n e = refl
-  by_walk (RanOut extent) f g n e = refl
-  by_walk Refused f g n e = absurd (n refl)
+  by_walk (Found q) f g e = by_rule q (ok (start + q)) (f (start + q)) (g q) (e q)
+  by_walk (Stopped extent) f g e = refl
+  by_walk (RanOut extent) f g e = refl
 
   pub takes_shift : (p : ℕ) (xs : List X) → takes (ahead (start + len)) v ok (start + p) xs ≡ raised_by start (takes (ahead len) v' ok' p xs)
   unfolding takes
@@ -87,7 +84,6 @@ module _ {X : Type 0} (v : X → ℕ → Verdict) (ok : ℕ → Bool) (start len
   takes_shift p (x ∷ xs) =
       ap (λ (w : Walked). on_walked ok w (λ q. takes (ahead (start + len)) v ok (q + 1) xs)) (sym (walk_shift (v x) start len p))
       ∙ by_walk (walk_from (v' x) len p) (λ q. takes (ahead (start + len)) v ok (q + 1) xs) (λ q. takes (ahead len) v' ok' (q + 1) xs)
-      (λ e. (walk_means (v' x) len p Refused).0 e)
       (λ q.
       let on : start + q + 1 ≡ start + (q + 1) = omega arith in
       ap (λ (n : ℕ). takes (ahead (start + len)) v ok n xs) on ∙ takes_shift (q + 1) xs)

@@ -2,7 +2,7 @@
 use Rattle.std.specs.Prelude.{ℕ, ◌+◌, List, [], ◌∷◌, ◌++◌, Bool, cond}
 use Rattle.verdict.specs.declared.Verdict.{Verdict}
 use Rattle.walk.specs.declared.Walked.{Walked}
-use Rattle.walk.specs.declared.Walked.TheVariants.{Found, Stopped, RanOut, Refused}
+use Rattle.walk.specs.declared.Walked.TheVariants.{Found, Stopped, RanOut}
 use Rattle.walk.specs.Walk.{walk_from, walk_back}
 
 -- positions of a match, at most: the cursor and 63 values of input, or 64 values of a context
@@ -36,12 +36,11 @@ having qs (taken rs) = taken (qs ++ rs)
 having qs (lost extent) = lost extent
 having qs unlike = unlike
 
--- what a walk's answer makes of the rest; no walk below the calls is refused
+-- what a walk's answer makes of the rest
 abbrev pub on_walked : (ℕ → Bool) → Walked → (ℕ → Outcome) → Outcome
 on_walked ok (Found q) rest = cond (ok q) (having (q ∷ []) (rest q)) unlike
 on_walked ok (Stopped extent) rest = lost extent
 on_walked ok (RanOut extent) rest = lost extent
-on_walked ok Refused rest = lost 0
 
 -- each value, of whatever kind, takes the place that the walk for it finds, and the rule is asked before the next value
 unfoldable pub takes : {X : Type 0} → Way → (X → ℕ → Verdict) → (ℕ → Bool) → ℕ → List X → Outcome
