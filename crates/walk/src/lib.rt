@@ -106,7 +106,8 @@ pub fn back_extent(p: usize) -> usize
 }
 
 // The backward walk: the next place to test is the one before `place`. A glyph that isn't skip Yes is read anew, so that the compiler loads only the
-// props of one that is.
+// props of one that is. It stands where it is called, as the forward walk does.
+#[inline(always)]
 pub fn backward_from(
     row: &[u32],
     place: usize,
