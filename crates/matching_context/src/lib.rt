@@ -9,8 +9,8 @@ ghost use Rattle.matching.specs.Matchers.{ahead_on, back_on};
 ghost use Rattle.matching.specs.Ready.{first_or_none, backward_row};
 ghost use Rattle.matching.specs.Answers.{context_told};
 
-use matching::{ContextMatch, Refusal, Terms};
-use verdict::{Sign, Table, Test, Verdict};
+use matching::{ContextMatch, NoContext, Terms};
+use verdict::{Sign, Table, Test};
 use walk::Walked;
 
 // Lookahead: the walk is handed the glyphs from the start on; what it answers is counted in the whole text.
@@ -33,28 +33,18 @@ pub fn lookahead(
     let onward = glyph::onward(text, start);
     let len = glyph::count(onward);
     let mut next = 0;
-    let mut i = 0;
-    while i < values.len() {
-        let sign = Sign {
-            test,
-            value: values[i],
-        };
+    for &value in values {
+        let sign = Sign { test, value };
         match walk::forward_from(onward, len, next, matcher, sign, lists, syllable, sets) {
-            Walked::Found(q) => {
-                next = q + 1;
-                i += 1;
-            }
-            Walked::Stopped(extent) => return ContextMatch::Lost(start + extent),
-            Walked::RanOut(extent) => return ContextMatch::Lost(start + extent),
-            // Only the walks that a user calls refuse.
-            Walked::Refused => return ContextMatch::Refused(Refusal::Shape),
+            Walked::Found(q) => next = q + 1,
+            Walked::Stopped(extent) => return Err(NoContext::Lost(start + extent)),
+            Walked::RanOut(extent) => return Err(NoContext::Lost(start + extent)),
         }
     }
-    ContextMatch::Matched(start + next)
+    Ok(start + next)
 }
 
-// Backtrack, from the end of the backward row. The backward walk's loop stands here once more, for speed, as the forward one does in
-// `matching::take_input`.
+// Backtrack, from the end of the backward row.
 pub fn backtrack(
     row: &[u32],
     syllable: u8,
@@ -69,23 +59,15 @@ pub fn backtrack(
 {
     let m = verdict::matcher_of(lookup.settings, true, lookup.mask, lookup.props);
     let mut place = glyph::count(row);
-    let mut i = 0;
-    while i < values.len() {
-        if place == 0 {
-            return ContextMatch::Lost(0);
-        }
-        place -= 1;
-        let g = glyph::read(row, place);
-        if !verdict_skip::is_skip_yes(m, sets, g) {
-            let value = values[i];
-            match verdict_match::on_rest(m, Sign { test, value }, lists, syllable, g) {
-                Verdict::Match => i += 1,
-                Verdict::NotMatch => return ContextMatch::Lost(walk::back_extent(place)),
-                Verdict::Skip => {}
-            }
+    for &value in values {
+        let sign = Sign { test, value };
+        match walk::backward_from(row, place, m, sign, lists, syllable, sets) {
+            Walked::Found(p) => place = p,
+            Walked::Stopped(extent) => return Err(NoContext::Lost(extent)),
+            Walked::RanOut(extent) => return Err(NoContext::Lost(extent)),
         }
     }
-    ContextMatch::Matched(place)
+    Ok(place)
 }
 
 // ---- the backward row
@@ -95,9 +77,10 @@ fn first_or_none(row: &[u32], k: usize) -> &[u32]
     ensures { glyphs_of result.now ≡ first_or_none k (glyphs_of row.now) }
 {
     if glyph::count(row) < k {
-        return glyph::first(row, 0);
+        glyph::first(row, 0)
+    } else {
+        glyph::first(row, k)
     }
-    glyph::first(row, k)
 }
 
 // The backward row, as a part of the row it stands in.

@@ -6,10 +6,7 @@ use Rattle.matching.specs.Matchers.{judge}
 use Rattle.matching.specs.Going.{told}
 use Rattle.matching_context.proofs.backtrack.Given as goal
 
-abbrev pub invariant-loop-i : goal.invariant-loop-i
-invariant-loop-i l = (l.place ≤ length (glyphs_of l.row))
+abbrev pub invariant-loop-value : goal.invariant-loop-value
+invariant-loop-value l = (l.place ≤ length (glyphs_of l.row))
     × (told behind (judge l.m l.sets (value_by l.test l.lists) l.syllable (glyphs_of l.row)) (length (glyphs_of l.row)) l.values
-    ≡ told behind (judge l.m l.sets (value_by l.test l.lists) l.syllable (glyphs_of l.row)) l.place (drop l.i l.values))
-
-abbrev pub decreases-loop-i : goal.decreases-loop-i
-decreases-loop-i l = l.place
+    ≡ told behind (judge l.m l.sets (value_by l.test l.lists) l.syllable (glyphs_of l.row)) l.place (drop l.value-index l.values))
