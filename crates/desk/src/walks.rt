@@ -1,12 +1,12 @@
 // The two questions, the verdict and the walks.
-ghost use Rattle.std.specs.Prelude.{◌≡◌, []};
+ghost use Rattle.std.specs.Prelude.{◌≡◌, [], MatchResult};
 ghost use Rattle.verdict.specs.Verdict.{value_of};
 ghost use Rattle.verdict_ask.specs.Ask.{ask_skip, ask_match, ask_verdict, skip_reply, match_reply, verdict_reply};
 ghost use Rattle.walk.specs.Calls.{forward_of, backward_of};
 ghost use Rattle.desk.specs.Walks.{settings_for, matcher_for, sign_of, said_of, step_of};
 
-use verdict::{Matcher, MayMatch, MaySkip, Settings, Sign, Table, Test, Verdict};
-use verdict_ask::{MatchAnswer, SkipAnswer, VerdictAnswer};
+use glyph::IllShaped;
+use verdict::{Matcher, Settings, Sign, Table, Test};
 use walk::Walked;
 
 // A lookup's table and settings, its mask and its props.
@@ -57,7 +57,8 @@ pub extern "C" fn cb_may_skip(
 ) -> Said
     ensures { result ≡ said_of (skip_reply (ask_skip row.now place (matcher_for lookup context) sets.now)) }
 {
-    said_skip(verdict_ask::ask_skip(row, place, matcher(lookup, context), sets))
+    let answer = verdict_ask::ask_skip(row, place, matcher(lookup, context), sets);
+    told(answer.map(|s| s as u8))
 }
 
 #[unsafe(no_mangle)]
@@ -71,13 +72,14 @@ pub extern "C" fn cb_may_match(
     ensures { result ≡ said_of (match_reply
         (ask_match row.now place (matcher_for lookup context) (value_of (sign_of sought) []) sought.syllable)) }
 {
-    said_match(verdict_ask::ask_match(
+    let answer = verdict_ask::ask_match(
         row,
         place,
         matcher(lookup, context),
         sign(sought),
         sought.syllable,
-    ))
+    );
+    told(answer.map(|m| m as u8))
 }
 
 #[unsafe(no_mangle)]
@@ -92,14 +94,15 @@ pub extern "C" fn cb_verdict(
     ensures { result ≡ said_of (verdict_reply
         (ask_verdict row.now place (matcher_for lookup context) (value_of (sign_of sought) []) sought.syllable sets.now)) }
 {
-    said_verdict(verdict_ask::ask_verdict(
+    let answer = verdict_ask::ask_verdict(
         row,
         place,
         matcher(lookup, context),
         sign(sought),
         sought.syllable,
         sets,
-    ))
+    );
+    told(answer.map(|v| v as u8))
 }
 
 #[unsafe(no_mangle)]
@@ -174,65 +177,36 @@ fn sign(s: Sought) -> Sign
     }
 }
 
-fn said_skip(a: SkipAnswer) -> Said
-    ensures { result ≡ said_of (skip_reply a) }
+// A question's answer, as its place in its list.
+fn told(a: Result<u8, IllShaped>) -> Said
+    ensures { MatchResult a (λ s. result ≡ record { number = 0; said = s }) (λ _. result ≡ record { number = 1; said = 0 }) }
 {
     match a {
-        SkipAnswer::Refused => Said { number: 1, said: 0 },
-        SkipAnswer::Said(s) => match s {
-            MaySkip::No => Said { number: 0, said: 0 },
-            MaySkip::Yes => Said { number: 0, said: 1 },
-            MaySkip::Maybe => Said { number: 0, said: 2 },
-        },
+        Ok(said) => Said { number: 0, said },
+        Err(IllShaped) => Said { number: 1, said: 0 },
     }
 }
 
-fn said_match(a: MatchAnswer) -> Said
-    ensures { result ≡ said_of (match_reply a) }
-{
-    match a {
-        MatchAnswer::Refused => Said { number: 1, said: 0 },
-        MatchAnswer::Said(s) => match s {
-            MayMatch::No => Said { number: 0, said: 0 },
-            MayMatch::Yes => Said { number: 0, said: 1 },
-            MayMatch::Maybe => Said { number: 0, said: 2 },
-        },
-    }
-}
-
-fn said_verdict(a: VerdictAnswer) -> Said
-    ensures { result ≡ said_of (verdict_reply a) }
-{
-    match a {
-        VerdictAnswer::Refused => Said { number: 1, said: 0 },
-        VerdictAnswer::Said(s) => match s {
-            Verdict::Match => Said { number: 0, said: 0 },
-            Verdict::NotMatch => Said { number: 0, said: 1 },
-            Verdict::Skip => Said { number: 0, said: 2 },
-        },
-    }
-}
-
-fn stepped(w: Walked) -> Step
+fn stepped(w: Result<Walked, IllShaped>) -> Step
     ensures { result ≡ step_of w }
 {
     match w {
-        Walked::Found(p) => Step {
+        Ok(Walked::Found(p)) => Step {
             number: 0,
             ranout: false,
             place: p,
         },
-        Walked::Stopped(e) => Step {
+        Ok(Walked::Stopped(e)) => Step {
             number: 4,
             ranout: false,
             place: e,
         },
-        Walked::RanOut(e) => Step {
+        Ok(Walked::RanOut(e)) => Step {
             number: 4,
             ranout: true,
             place: e,
         },
-        Walked::Refused => Step {
+        Err(IllShaped) => Step {
             number: 1,
             ranout: false,
             place: 0,

@@ -1,6 +1,0 @@
--- The room's own answer, by its number and value. Assumes nothing.
-use Rattle.std.proofs.Common.{◌∙◌}
-use Rattle.desk.proofs.walks.cb_backward.Goals as goal
-
-pub returns : goal.returns
-returns c = c.stepped.ensures ∙ rw (c.backward.ensures, c.sign.ensures, c.matcher.ensures)
