@@ -4,12 +4,13 @@
 ghost use Rattle.std.specs.Prelude.{◌≡◌, true, false, ◌%◌};
 ghost use Rattle.rule_digest.specs.Rule.{rule_bits, RuleSays, rule_added, rule_full, rule_may_have};
 
-#[derive(Clone, Copy)]
+#[derive(Clone, Copy, Debug, PartialEq, Eq)]
 pub struct RuleSetDigest {
     pub mask: u64,
 }
 
 impl RuleSetDigest {
+    #[tactic(auto, using(bits::proofs::Laws::zero_bit))]
     pub fn new() -> Self
         ensures { RuleSays result (λ k. false) }
     {
