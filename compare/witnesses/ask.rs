@@ -4,7 +4,8 @@
 // ---- allowances, digests, books
 
 fn charged(c: allowance::Charged) -> String {
-    format!("{:?}, {} and {} left", c.charge, c.left.work, c.left.bytes)
+    let answer = if c.charge.is_ok() { "Taken" } else { "Exhausted" };
+    format!("{answer}, {} and {} left", c.left.work, c.left.bytes)
 }
 
 fn lookups(words: &[u16]) -> String {

@@ -1,9 +1,9 @@
 -- Allowances: two numbers that only fall, one for work and one for bytes. (01, port order 2; budget.rs.)
-use Rattle.std.specs.Prelude.{Bool, true, false, cond, ℕ, ◌-◌, ◌*◌, ◌^◌, min, max, ltb, leb}
+use Rattle.std.specs.Prelude.{Bool, cond, ⊤, Result, Ok, Err, ℕ, ◌-◌, ◌*◌, ◌^◌, min, max, ltb, leb}
 use Rattle.allowance.specs.declared.Budget.{Budget}
-use Rattle.allowance.specs.declared.Charge.{Charge}
-use Rattle.allowance.specs.declared.Charge.TheVariants.{Taken, Exhausted}
+use Rattle.std.specs.Result.{is_ok}
 use Rattle.allowance.specs.declared.Charged.{Charged}
+use Rattle.allowance.specs.declared.Exhausted.{Exhausted}
 
 -- the largest number of 64 bits
 abbrev pub most : ℕ
@@ -16,16 +16,16 @@ opening bytes = max 4194304 (min 134217728 (min most (bytes * 256)))
 abbrev pub budget_with : ℕ → ℕ → Budget
 budget_with work bytes = record { work = work; bytes = bytes }
 
-abbrev pub was_taken : Charge → Bool
-was_taken Taken = true
-was_taken Exhausted = false
+-- the charge was taken, and not Exhausted
+abbrev pub was_taken : Result ⊤ Exhausted → Bool
+was_taken charge = is_ok charge
 
 -- what is answered, beside what is left
 abbrev pub charge_taken : Budget → Charged
-charge_taken b = record { charge = Taken; left = b }
+charge_taken b = record { charge = Ok tt; left = b }
 
 abbrev pub charge_exhausted : Budget → Charged
-charge_exhausted b = record { charge = Exhausted; left = b }
+charge_exhausted b = record { charge = Err (record {}); left = b }
 
 -- more than remains is Exhausted and takes nothing; anything else, 0 always, is taken
 unfoldable pub worked : ℕ → Budget → Charged

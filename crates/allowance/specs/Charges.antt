@@ -1,9 +1,8 @@
 -- Charges made one after another: their answers, what they take of each counter, and what is left. (01, port order 2.)
-use Rattle.std.specs.Prelude.{List, [], ◌∷◌, ℕ, ◌+◌, ◌*◌}
+use Rattle.std.specs.Prelude.{List, [], ◌∷◌, ℕ, ◌+◌, ◌*◌, ⊤, Result, Ok, Err}
 use Rattle.allowance.specs.declared.Budget.{Budget}
-use Rattle.allowance.specs.declared.Charge.{Charge}
-use Rattle.allowance.specs.declared.Charge.TheVariants.{Taken, Exhausted}
 use Rattle.allowance.specs.declared.Charged.{Charged}
+use Rattle.allowance.specs.declared.Exhausted.{Exhausted}
 use Rattle.allowance.specs.Allowance.{worked, allocated}
 
 -- what is charged: so many visits, or count things of size bytes each
@@ -25,7 +24,7 @@ bytes_asked (Visits n) = 0
 bytes_asked (Things count size) = count * size
 
 -- the answers, and what is left: each charge is made on what those before it left
-unfoldable pub answers_to : List Charging → Budget → List Charge
+unfoldable pub answers_to : List Charging → Budget → List (Result ⊤ Exhausted)
 answers_to [] b = []
 answers_to (a ∷ more) b = (charged_for a b).charge ∷ answers_to more (charged_for a b).left
 
@@ -34,8 +33,8 @@ left_after [] b = b
 left_after (a ∷ more) b = left_after more (charged_for a b).left
 
 -- what was taken of a counter: the sum over the charges that weren't Exhausted
-unfoldable pub sum_taken : (Charging → ℕ) → List Charging → List Charge → ℕ
+unfoldable pub sum_taken : (Charging → ℕ) → List Charging → List (Result ⊤ Exhausted) → ℕ
 sum_taken of [] answers = 0
 sum_taken of (a ∷ more) [] = 0
-sum_taken of (a ∷ more) (Taken ∷ answers) = of a + sum_taken of more answers
-sum_taken of (a ∷ more) (Exhausted ∷ answers) = sum_taken of more answers
+sum_taken of (a ∷ more) (Ok u ∷ answers) = of a + sum_taken of more answers
+sum_taken of (a ∷ more) (Err e ∷ answers) = sum_taken of more answers

@@ -1,6 +1,6 @@
 -- Of each charge (01, port order 2): what was taken plus what remains is what was there before it, Exhausted takes nothing, and taking 0 always
 -- succeeds.
-use Rattle.std.specs.Prelude.{Bool, cond, ◌≡◌, ℕ, ◌+◌, ◌-◌, ◌*◌, ◌≤◌, ◌<◌, ltb, leb}
+use Rattle.std.specs.Prelude.{Bool, cond, ⊤, Result, Ok, Err, ◌≡◌, ℕ, ◌+◌, ◌-◌, ◌*◌, ◌≤◌, ◌<◌, ltb, leb}
 use Rattle.std.proofs.Math.Bool.{true, false}
 use Rattle.std.proofs.Math.Path.{refl}
 use native.Mathlib.Omega.{arith}
@@ -8,8 +8,7 @@ use Rattle.std.proofs.Common.{le_trans, lt_of_le_of_lt}
 use Rattle.std.proofs.Math.Nat.{sub-zero}
 use borrow.Author.Tests.{le-leb, lt-leb, le-ltb, lt-ltb, leb-true, leb-false, ltb-true}
 use Rattle.allowance.specs.declared.Budget.{Budget}
-use Rattle.allowance.specs.declared.Charge.{Charge}
-use Rattle.allowance.specs.declared.Charge.TheVariants.{Taken, Exhausted}
+use Rattle.allowance.specs.declared.Exhausted.{Exhausted}
 use Rattle.allowance.specs.Allowance.{most, budget_with, charge_taken, charge_exhausted, worked, allocated}
 
 module _ (b : Budget) where
@@ -51,9 +50,9 @@ module _ (b : Budget) where
 -- ---- by the answer: what was taken plus what remains is what was there, and Exhausted changes nothing
 
 -- a charge of n on the counter `from`, beside another one
-abbrev pub Balances : Charge → ℕ → ℕ → ℕ → ℕ → ℕ → Type 0
-Balances Taken n from to other other' = (n + to ≡ from) × (other' ≡ other)
-Balances Exhausted n from to other other' = (from < n) × (to ≡ from) × (other' ≡ other)
+abbrev pub Balances : Result ⊤ Exhausted → ℕ → ℕ → ℕ → ℕ → ℕ → Type 0
+Balances (Ok u) n from to other other' = (n + to ≡ from) × (other' ≡ other)
+Balances (Err e) n from to other other' = (from < n) × (to ≡ from) × (other' ≡ other)
 
 module _ (b : Budget) where
   worked_by : (n : ℕ) (t : Bool) → leb n b.work ≡ t → let r = worked n b in

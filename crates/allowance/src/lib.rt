@@ -1,25 +1,23 @@
 // A font's allowance for preparing its lookups: how much work may be done, and how many bytes may be asked for.
 #![tactic(auto)]
 
-ghost use Rattle.std.specs.Prelude.{◌≡◌, ◌-◌, ◌*◌, ◌≤◌, ltb};
-ghost use Rattle.allowance.specs.Allowance.{most, opening, budget_with, was_taken, charge_exhausted, worked, allocated};
+ghost use Rattle.std.specs.Prelude.{◌≡◌};
+ghost use Rattle.allowance.specs.Allowance.{opening, budget_with, charge_exhausted, worked, allocated};
 
-#[derive(Clone, Copy)]
+#[derive(Clone, Copy, Debug, PartialEq, Eq)]
 pub struct Budget {
     pub work: u64,
     pub bytes: u64,
 }
 
-#[derive(Clone, Copy)]
-pub enum Charge {
-    Taken,
-    Exhausted,
-}
+// A charge of more than is left.
+#[derive(Clone, Copy, Debug, PartialEq, Eq)]
+pub struct Exhausted;
 
-// What a charge answers, and what is left after it.
-#[derive(Clone, Copy)]
+// What a charge answers, and what is left after it. A struct, since something is left whatever the answer.
+#[derive(Clone, Copy, Debug, PartialEq, Eq)]
 pub struct Charged {
-    pub charge: Charge,
+    pub charge: Result<(), Exhausted>,
     pub left: Budget,
 }
 
@@ -28,11 +26,12 @@ const LEAST: u64 = 4_194_304;
 const MOST: u64 = 134_217_728;
 
 impl Budget {
-    // The allowance of a table of so many bytes.
+    // The allowance of a table of so many bytes: bytes × 256, held between the least and the most.
     pub fn for_table_bytes(bytes: u64) -> Self
         ensures { result ≡ budget_with (opening bytes) (opening bytes) }
     {
-        Budget::new(size_for(bytes), size_for(bytes))
+        let size = bytes.saturating_mul(256).clamp(LEAST, MOST);
+        Budget::new(size, size)
     }
 
     pub fn new(work: u64, bytes: u64) -> Self
@@ -41,85 +40,46 @@ impl Budget {
         Budget { work, bytes }
     }
 
+    #[tactic(auto, using(std::proofs::lemmas::Bool::Decides::nat_tests), unfolding(crate::specs::Allowance::worked))]
     pub fn work(self, visits: u64) -> Charged
         ensures { result ≡ worked visits self }
     {
         if self.work < visits {
-            return exhausted(self);
+            return nothing_taken(self);
         }
         Charged {
-            charge: Charge::Taken,
+            charge: Ok(()),
             left: Budget {
                 work: self.work - visits,
-                bytes: self.bytes,
+                ..self
             },
         }
     }
 
-    // A charge for count things of size bytes each.
+    // A charge for count things of size bytes each. The product may pass 64 bits.
+    #[tactic(auto, using(std::proofs::lemmas::Bool::Decides::nat_tests), unfolding(crate::specs::Allowance::allocated))]
     pub fn alloc(self, count: u64, size: u64) -> Charged
         ensures { result ≡ allocated count size self }
     {
-        if exceeds(count, size, self.bytes) {
-            return exhausted(self);
-        }
-        Charged {
-            charge: Charge::Taken,
-            left: Budget {
-                work: self.work,
-                bytes: less(self.bytes, count, size),
+        match count.checked_mul(size) {
+            Some(asked) if asked <= self.bytes => Charged {
+                charge: Ok(()),
+                left: Budget {
+                    bytes: self.bytes - asked,
+                    ..self
+                },
             },
+            _ => nothing_taken(self),
         }
     }
 }
 
 // Exhausted takes nothing.
-fn exhausted(left: Budget) -> Charged
+fn nothing_taken(left: Budget) -> Charged
     ensures { result ≡ charge_exhausted left }
 {
     Charged {
-        charge: Charge::Exhausted,
+        charge: Err(Exhausted),
         left,
-    }
-}
-
-// bytes × 256, held between the least and the most.
-fn size_for(bytes: u64) -> u64
-    ensures { result ≡ opening bytes }
-{
-    if MOST / 256 <= bytes {
-        return MOST;
-    }
-    if bytes * 256 < LEAST {
-        return LEAST;
-    }
-    bytes * 256
-}
-
-// Whether count × size is more than left. The product itself may pass 64 bits.
-fn exceeds(count: u64, size: u64, left: u64) -> bool
-    ensures { result ≡ ltb left (count * size) }
-{
-    if size == 0 {
-        return false;
-    }
-    left / size < count
-}
-
-// What is left of a number when count × size is taken.
-fn less(left: u64, count: u64, size: u64) -> u64
-    requires { count * size ≤ left }
-    ensures { (result ≡ left - count * size) × (left ≤ most) }
-{
-    left - count * size
-}
-
-// The charge was taken, and not Exhausted.
-pub fn is_taken(charge: Charge) -> bool
-    ensures { result ≡ was_taken charge }
-{
-    match charge {
-        Charge::Taken => true,
-        Charge::Exhausted => false,
     }
 }

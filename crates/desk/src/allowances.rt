@@ -30,8 +30,7 @@ pub extern "C" fn cb_budget_work(left: &mut [u64; 2], visits: u64) -> bool
     let c = Budget::new(left[0], left[1]).work(visits);
     let b = c.left;
     *left = [b.work, b.bytes];
-    let charge = c.charge;
-    allowance::is_taken(charge)
+    c.charge.is_ok()
 }
 
 #[unsafe(no_mangle)]
@@ -42,6 +41,5 @@ pub extern "C" fn cb_budget_alloc(left: &mut [u64; 2], count: u64, size: u64) ->
     let c = Budget::new(left[0], left[1]).alloc(count, size);
     let b = c.left;
     *left = [b.work, b.bytes];
-    let charge = c.charge;
-    allowance::is_taken(charge)
+    c.charge.is_ok()
 }
