@@ -61,7 +61,7 @@ fn matcher(
     mask: u32,
     props: u32,
 ) -> verdict::Matcher {
-    let table = verdict::table_of(gpos);
+    let table = verdict::Table::from(gpos);
     verdict::matcher_of(verdict::Settings { table, zwnj, zwj, syllables }, context, mask, props)
 }
 
@@ -73,7 +73,7 @@ fn terms(
     mask: u32,
     props: u32,
 ) -> matching::Terms {
-    let table = verdict::table_of(gpos);
+    let table = verdict::Table::from(gpos);
     matching::Terms { settings: verdict::Settings { table, zwnj, zwj, syllables }, mask, props }
 }
 
