@@ -1,7 +1,7 @@
 -- What stands in each slot after a gain, a loss and an opening, and that 64 slots filled so hold the positions.
 use Rattle.std.specs.Prelude.{◌≡◌, refl, List, [], ◌∷◌, ◌++◌, map, set, take, drop, replicate}
 use Rattle.std.proofs.Common.{sym, ◌∙◌, length-append, length-take-le, ext_get_or, get_or-set_same, get_or-set_other}
-use Rattle.std.proofs.Math.Path.{ap}
+use Rattle.std.proofs.Math.Path.{ap, subst}
 use Prim.Native.Nat.{ℕ, zero, suc, ◌+◌, ◌-◌, ◌≤◌, ◌<◌}
 use Rattle.std.proofs.Math.Decide.{dec_lt}
 use native.Mathlib.Omega.{arith}
@@ -36,12 +36,12 @@ limit_fits = omega arith
 
 -- ---- 64 slots, filled one a turn
 
-pub filled_more : (out : List ℕ) (j v : ℕ) (L : List ℕ) → j < length out → ((k : ℕ) → k < j → get_or out k 0 ≡ get_or L k 0) → v ≡ get_or L j 0
-    → (k : ℕ) → k < j + 1 → get_or (set out j v) k 0 ≡ get_or L k 0
-filled_more out j v L h f e k l = elim (dec_lt k j) [
-  | yes b ↦ get_or-set_other out j k v 0 (λ q. let z : ⊥ = omega arith in absurd z) ∙ f k b
-  | no b ↦ let q : k ≡ j = omega arith in ap (λ (n : ℕ). get_or (set out j v) n 0) q ∙ get_or-set_same out j v 0 h ∙ e
-      ∙ ap (λ (n : ℕ). get_or L n 0) (sym q)
+pub filled_more : (P : ℕ → ℕ → Type 0) (out : List ℕ) (j v : ℕ) → j < length out → ((k : ℕ) → k < j → P k (get_or out k 0)) → P j v
+    → (k : ℕ) → k < j + 1 → P k (get_or (set out j v) k 0)
+filled_more P out j v h f e k l = elim (dec_lt k j) [
+  | yes b ↦ subst (P k) (sym (get_or-set_other out j k v 0 (λ q. let z : ⊥ = omega arith in absurd z))) (f k b)
+  | no b ↦ let q : j ≡ k = omega arith in
+      subst (λ (n : ℕ). P n (get_or (set out j v) n 0)) q (subst (P j) (sym (get_or-set_same out j v 0 h)) e)
 ]
 
 slotted_at : (L : List ℕ) (k : ℕ) → get_or (slotted L) k 0 ≡ get_or L k 0

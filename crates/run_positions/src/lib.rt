@@ -1,9 +1,8 @@
 // A level of a run in 64 slots: its opening from a match, and the repair of its positions.
 #![tactic(auto)]
 
-ghost use Rattle.std.specs.Prelude.{◌≡◌, map, ◌+◌, ◌-◌, ◌≤◌, ◌<◌, min, length, get_or, take};
+ghost use Rattle.std.specs.Prelude.{◌≡◌, ℕ, ◌+◌, ◌-◌, ◌≤◌, ◌<◌, get_or, length, take};
 ghost use Rattle.glyph.specs.Glyph.{limit};
-ghost use Rattle.matching.specs.Answers.{slotted};
 ghost use Rattle.run.specs.Repair.{with_gain, with_loss, grown_by, shrunk_by, repaired, Sound};
 ghost use Rattle.run_positions.specs.Slots.{Placed, level_of, shown, Neat};
 ghost use Rattle.run.specs.Run.{from_done, moved_level};
@@ -37,22 +36,20 @@ fn grow(lv: Slots, i: usize, n: usize) -> Slots
     requires { Placed lv.at lv.count × (i < lv.count) × (lv.end + n ≤ limit) × Neat lv }
     ensures { result ≡ shown (grown_by i n (level_of lv)) }
 {
-    let count = lv.count;
-    let at = lv.at;
-    if count + n <= SLOTS {
-        let next = gained_slots(&at, i, n, count);
+    let end = lv.end + n;
+    if lv.count + n <= SLOTS {
+        let at = filled(lv.count + n, |j| gained_slot(&lv, i, n, j));
         return Slots {
             live: lv.live,
-            end: lv.end + n,
-            count: count + n,
-            at: next,
+            end,
+            count: lv.count + n,
+            at,
         };
     }
     Slots {
         live: false,
-        end: lv.end + n,
-        count: count,
-        at: at,
+        end,
+        ..lv
     }
 }
 
@@ -60,113 +57,70 @@ fn shrink(lv: Slots, i: usize, n: usize) -> Slots
     requires { Placed lv.at lv.count × (i < lv.count) × (get_or lv.at i 0 ≤ lv.end) }
     ensures { result ≡ shown (shrunk_by i n (level_of lv)) }
 {
-    let count = lv.count;
-    let end = lv.end;
-    let at = lv.at;
-    let own = at[i] as usize;
-    let back = least(n, end - own);
-    let gone = least(back, count - (i + 1));
-    let next = lost_slots(&at, i, gone, count);
+    let own = lv.at[i] as usize;
+    let back = n.min(lv.end - own);
+    let gone = back.min(lv.count - (i + 1));
+    let at = filled(lv.count - gone, |j| lost_slot(&lv, i, gone, j));
     Slots {
         live: lv.live,
-        end: end - back,
-        count: count - gone,
-        at: next,
+        end: lv.end - back,
+        count: lv.count - gone,
+        at,
     }
 }
 
-fn least(a: usize, b: usize) -> usize
-    ensures { result ≡ min a b }
+// As many slots as are asked for, each with what it is to hold; the others are 0.
+fn filled<F: Fn(usize) -> u16>(count: usize, slot: F) -> [u16; SLOTS]
+    requires few { count ≤ 64 }
+    requires callable { (j : ℕ) → j < count → F.pre slot j }
+    ensures long { length result ≡ 64 }
+    ensures held { (j : ℕ) → j < count → F.post slot j (get_or result j 0) }
+    ensures rest { (j : ℕ) → count ≤ j → get_or result j 0 ≡ 0 }
 {
-    if a <= b { a } else { b }
-}
-
-// The positions after a gain of n at position i.
-fn gained_slots(at: &[u16; 64], i: usize, n: usize, count: usize) -> [u16; 64]
-    requires { Placed at.now count × (i < count) × (count + n ≤ 64) }
-    ensures { result ≡ slotted (with_gain i n (take count at.now)) }
-{
-    let all = count + n;
-    let mut out = [0u16; 64];
-    let mut j = 0;
-    while j < all {
-        out[j] = gained_slot(at, i, n, count, j);
-        j += 1;
+    let mut out = [0u16; SLOTS];
+    for j in 0..count {
+        out[j] = slot(j);
     }
     out
 }
 
-fn gained_slot(at: &[u16; 64], i: usize, n: usize, count: usize, j: usize) -> u16
-    requires { Placed at.now count × (i < count) × (count + n ≤ 64) × (j < 64) }
-    ensures { result ≡ get_or (with_gain i n (take count at.now)) j 0 }
+// Position j after a gain of n at position i.
+fn gained_slot(lv: &Slots, i: usize, n: usize, j: usize) -> u16
+    requires { Placed lv.now.at lv.now.count × (i < lv.now.count) × (lv.now.count + n ≤ 64) × (j < lv.now.count + n) }
+    ensures { result ≡ get_or (with_gain i n (take lv.now.count lv.now.at)) j 0 }
 {
     if j <= i {
-        return at[j];
+        return lv.at[j];
     }
     if j <= i + n {
-        return at[i] + ((j - i) as u16);
+        return lv.at[i] + ((j - i) as u16);
     }
-    if j < count + n {
-        return at[j - n] + (n as u16);
-    }
-    0
+    lv.at[j - n] + (n as u16)
 }
 
-// The positions after a loss of n at position i.
-fn lost_slots(at: &[u16; 64], i: usize, n: usize, count: usize) -> [u16; 64]
-    requires { Placed at.now count × (i < count) × (n ≤ count - (i + 1)) }
-    ensures { result ≡ slotted (with_loss i n (take count at.now)) }
-{
-    let all = count - n;
-    let mut out = [0u16; 64];
-    let mut j = 0;
-    while j < all {
-        out[j] = lost_slot(at, i, n, count, j);
-        j += 1;
-    }
-    out
-}
-
-fn lost_slot(at: &[u16; 64], own: usize, n: usize, count: usize, j: usize) -> u16
-    requires { Placed at.now count × (own < count) × (n ≤ count - (own + 1)) × (j < 64) }
-    ensures { result ≡ get_or (with_loss own n (take count at.now)) j 0 }
+// Position j after a loss of n at position `own`.
+fn lost_slot(lv: &Slots, own: usize, n: usize, j: usize) -> u16
+    requires { Placed lv.now.at lv.now.count × (own < lv.now.count) × (n ≤ lv.now.count - (own + 1)) × (j < lv.now.count - n) }
+    ensures { result ≡ get_or (with_loss own n (take lv.now.count lv.now.at)) j 0 }
 {
     if j <= own {
-        return at[j];
+        return lv.at[j];
     }
-    if j + n < count {
-        return at[j + n] - (n as u16);
-    }
-    0
+    lv.at[j + n] - (n as u16)
 }
 
 // The level of a match whose places count in the coming row: glyph idx of the row is glyph d of the text.
 pub fn open(places: &[u16; 64], count: usize, end: usize, idx: usize, d: usize) -> Slots
-    requires { (length places.now ≡ 64) × (count ≤ 64) × (idx ≤ end) × (end ≤ limit) × (d ≤ idx) }
+    requires { (count ≤ 64) × (idx ≤ end) × (end ≤ limit) × (d ≤ idx) }
     ensures { result ≡ shown (moved_level idx d (take count places.now) end) }
 {
-    let mut out = [0u16; 64];
-    let mut j = 0;
-    while j < count {
-        out[j] = opened_slot(places, count, idx, d, j);
-        j += 1;
-    }
+    let at = filled(count, |j| from_done(places[j], idx, d));
     Slots {
         live: true,
         end: d + (end - idx),
-        count: count,
-        at: out,
+        count,
+        at,
     }
-}
-
-fn opened_slot(places: &[u16; 64], count: usize, idx: usize, d: usize, j: usize) -> u16
-    requires { (length places.now ≡ 64) × (count ≤ 64) × (j < 64) × (d ≤ idx) × (idx ≤ limit) }
-    ensures { result ≡ get_or (map (from_done idx d) (take count places.now)) j 0 }
-{
-    if j < count {
-        return from_done(places[j], idx, d);
-    }
-    0
 }
 
 // A place of the coming row, from the text's first glyph on.

@@ -1,24 +1,30 @@
 -- Both cases are the definition's. Assumes nothing.
-use Rattle.std.proofs.Common.{arith}
-use Rattle.run_positions.specs.Laws.{limit_fits}
+use Rattle.std.proofs.Common.{arith, rules, take, get_or, List, ℕ, ◌≡◌, ◌+◌, ◌<◌}
+use Rattle.matching.specs.Answers.{slotted}
+use Rattle.run.specs.Repair.{with_gain}
+use Rattle.run_positions.specs.Laws.{limit_fits, filled_few, gain_few, gain_long}
 use Rattle.run_positions.specs.Repairs.{grown_fits, grown_stops}
 use Rattle.run_positions.proofs.grow.Goals as goal
 
-pub overflow_add-count : goal.overflow_add-count
-overflow_add-count c = omega (arith, limit_fits)
+pub overflow_add-end : goal.overflow_add-end
+overflow_add-end c = omega (arith, limit_fits)
 
-pub overflow_add-result : goal.overflow_add-result
-overflow_add-result c = omega (arith, limit_fits)
+pub overflow_add-lv : goal.overflow_add-lv
+overflow_add-lv c = omega (arith, limit_fits)
 
-pub returns-then-count-n-le-SLOTS : goal.returns-then-count-n-le-SLOTS
-returns-then-count-n-le-SLOTS c =
+pub returns-then-lv-n-le-SLOTS : goal.returns-then-lv-n-le-SLOTS
+returns-then-lv-n-le-SLOTS c =
     let a = c.args in
-    rw c.gained_slots-next.ensures (grown_fits a.lv a.i a.n c.requires.0 c.requires.1 c.if-count-n-le-SLOTS.true)
-
-pub overflow_add-result-2 : goal.overflow_add-result-2
-overflow_add-result-2 c = omega (arith, limit_fits)
+    let lv = a.lv in
+    let L : List ℕ = with_gain a.i a.n (take lv.count lv.at) in
+    let long = gain_long lv.at lv.count a.i a.n c.requires.0 c.requires.1 in
+    let held : (k : ℕ) → k < lv.count + a.n → get_or c.filled-at.result k 0 ≡ get_or L k 0 = λ k b. search (rules, c.filled-at.ensures.held k b) in
+    let e : c.filled-at.result ≡ slotted L =
+    filled_few c.filled-at.result L (lv.count + a.n) c.filled-at.ensures.long (omega (arith, long))
+    (gain_few lv.at lv.count a.i a.n c.requires.0 c.requires.1 c.if-lv-n-le-SLOTS.true) held c.filled-at.ensures.rest in
+    rw e (grown_fits lv a.i a.n c.requires.0 c.requires.1 c.if-lv-n-le-SLOTS.true)
 
 pub returns : goal.returns
 returns c =
     let a = c.args in
-    grown_stops a.lv a.i a.n c.requires.0 c.requires.1 c.requires.3 c.if-count-n-le-SLOTS.false
+    grown_stops a.lv a.i a.n c.requires.0 c.requires.1 c.requires.3 c.if-lv-n-le-SLOTS.false
