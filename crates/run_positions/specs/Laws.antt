@@ -218,6 +218,11 @@ module _ (at : List ℕ) (count i n : ℕ) (p : Placed at count) (h : i < count)
   pub loss_long : n ≤ count - (i + 1) → length (with_loss i n (take count at)) ≡ count - n
   loss_long k = omega (arith, length-lost i n ps (omega (arith, size_is)) (omega (arith, size_is)), size_is)
 
+-- what the code asks of a slot
+pub ruleset gains = (gain_before, gain_new, gain_later)
+
+pub ruleset losses = (loss_before, loss_later)
+
 module _ (idx d : ℕ) (places : List ℕ) (count : ℕ) (all : length places ≡ slots) (few : count ≤ slots) where
   many : length (take count places) ≡ count
   many = length-take-le count places (omega arith)

@@ -10,7 +10,7 @@ ghost use Rattle.run.specs.Run.{from_done, moved_level};
 pub const SLOTS: usize = 64;
 
 // Whether its records go on, its end, and its positions from the text's first glyph on; unused slots are 0.
-#[derive(Clone, Copy)]
+#[derive(Clone, Copy, Debug, PartialEq, Eq)]
 pub struct Slots {
     pub live: bool,
     pub end: usize,
@@ -19,6 +19,7 @@ pub struct Slots {
 }
 
 // The level after the lookup at position i found `old` glyphs in the text and left `new`.
+#[tactic(auto, using(crate::specs::Laws::placed), unfolding(run::specs::Repair::repaired))]
 pub fn repair(lv: Slots, i: usize, old: usize, new: usize) -> Slots
     requires { Neat lv × Sound 0 old (level_of lv) × (i < lv.count) × (old ≤ limit) × (new ≤ limit) }
     ensures { result ≡ shown (repaired i old new (level_of lv)) }
@@ -32,6 +33,7 @@ pub fn repair(lv: Slots, i: usize, old: usize, new: usize) -> Slots
     lv
 }
 
+#[tactic(auto, unfolding(glyph::specs::Glyph::limit))]
 fn grow(lv: Slots, i: usize, n: usize) -> Slots
     requires { Placed lv.at lv.count × (i < lv.count) × (lv.end + n ≤ limit) × Neat lv }
     ensures { result ≡ shown (grown_by i n (level_of lv)) }
@@ -40,10 +42,10 @@ fn grow(lv: Slots, i: usize, n: usize) -> Slots
     if lv.count + n <= SLOTS {
         let at = filled(lv.count + n, |j| gained_slot(&lv, i, n, j));
         return Slots {
-            live: lv.live,
             end,
             count: lv.count + n,
             at,
+            ..lv
         };
     }
     Slots {
@@ -62,10 +64,10 @@ fn shrink(lv: Slots, i: usize, n: usize) -> Slots
     let gone = back.min(lv.count - (i + 1));
     let at = filled(lv.count - gone, |j| lost_slot(&lv, i, gone, j));
     Slots {
-        live: lv.live,
         end: lv.end - back,
         count: lv.count - gone,
         at,
+        ..lv
     }
 }
 
@@ -85,6 +87,7 @@ fn filled<F: Fn(usize) -> u16>(count: usize, slot: F) -> [u16; SLOTS]
 }
 
 // Position j after a gain of n at position i.
+#[tactic(auto, using(crate::specs::Laws::gains), unfolding(glyph::specs::Glyph::limit))]
 fn gained_slot(lv: &Slots, i: usize, n: usize, j: usize) -> u16
     requires { Placed lv.now.at lv.now.count × (i < lv.now.count) × (lv.now.count + n ≤ 64) × (j < lv.now.count + n) }
     ensures { result ≡ get_or (with_gain i n (take lv.now.count lv.now.at)) j 0 }
@@ -99,6 +102,7 @@ fn gained_slot(lv: &Slots, i: usize, n: usize, j: usize) -> u16
 }
 
 // Position j after a loss of n at position `own`.
+#[tactic(auto, using(crate::specs::Laws::losses))]
 fn lost_slot(lv: &Slots, own: usize, n: usize, j: usize) -> u16
     requires { Placed lv.now.at lv.now.count × (own < lv.now.count) × (n ≤ lv.now.count - (own + 1)) × (j < lv.now.count - n) }
     ensures { result ≡ get_or (with_loss own n (take lv.now.count lv.now.at)) j 0 }
@@ -124,6 +128,7 @@ pub fn open(places: &[u16; 64], count: usize, end: usize, idx: usize, d: usize) 
 }
 
 // A place of the coming row, from the text's first glyph on.
+#[tactic(auto, unfolding(glyph::specs::Glyph::limit))]
 fn from_done(p: u16, idx: usize, d: usize) -> u16
     requires { (d ≤ idx) × (idx ≤ limit) }
     ensures { result ≡ from_done idx d p }

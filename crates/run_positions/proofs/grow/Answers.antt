@@ -2,15 +2,9 @@
 use Rattle.std.proofs.Common.{arith, rules, take, get_or, List, ℕ, ◌≡◌, ◌+◌, ◌<◌}
 use Rattle.matching.specs.Answers.{slotted}
 use Rattle.run.specs.Repair.{with_gain}
-use Rattle.run_positions.specs.Laws.{limit_fits, filled_few, gain_few, gain_long}
+use Rattle.run_positions.specs.Laws.{filled_few, gain_few, gain_long}
 use Rattle.run_positions.specs.Repairs.{grown_fits, grown_stops}
 use Rattle.run_positions.proofs.grow.Goals as goal
-
-pub overflow_add-end : goal.overflow_add-end
-overflow_add-end c = omega (arith, limit_fits)
-
-pub overflow_add-lv : goal.overflow_add-lv
-overflow_add-lv c = omega (arith, limit_fits)
 
 pub returns-then-lv-n-le-SLOTS : goal.returns-then-lv-n-le-SLOTS
 returns-then-lv-n-le-SLOTS c =
