@@ -39,6 +39,8 @@ module _ (lv : Slots) (e : Ending) (n seq : ℕ) where
           rw (l, o, lt-ltb seq (length (take lv.count lv.at)) (omega (arith, count_is lv neat)))
           (ap (λ (p : ℕ). ltb p n) (sym (get_or-take lv.count lv.at seq 0 h)))
 
+pub ruleset due = (due_stopped, due_over, due_index, due_place)
+
 pub few_slots : {n : ℕ} (lv : Slots) → Neat lv → Sound 0 n (level_of lv) → lv.count ≤ 64
 few_slots lv neat o = omega (arith, count_is lv neat, o.few)
 
@@ -132,6 +134,8 @@ module _ (done coming : List ℕ) (s : State) (lv : Slots) (seq : ℕ) where
         let d : is_due (at seq) (stage_of done coming s lv) ≡ true = due_is a.fits ∙ e in
         rw (d, j) (judged_so depth s.left refl a.neat (rw q at h))
 
+pub ruleset readies = (few_slots, due_shown)
+
 -- ---- a level's end
 
 module _ (done coming : List ℕ) (s : State) (f : Fits done coming s.place) (end : ℕ) where
@@ -145,3 +149,5 @@ module _ (done coming : List ℕ) (s : State) (f : Fits done coming s.place) (en
   unfolding closed_at
   closed_moves done' coming' place o h =
       rw o (record { fits = h.fits; is = λ j. changed (λ t. h.text j) (run_of done coming s) })
+
+pub ruleset closings = (closed_over, closed_moves)

@@ -33,26 +33,15 @@ pub struct Ready {
 }
 
 // Whether a record is due: its level goes on in a run that isn't over, its sequence index is below the count, its position is in the text.
+#[tactic(auto, using(crate::specs::Steps::due))]
 fn is_due(s: State, lv: Slots, seq: usize) -> bool
     requires { Neat lv × (lv.count ≤ 64) × (s.place.idx ≤ limit) × (s.place.d ≤ s.place.idx) }
     ensures { result ≡ is_due_at (level_of lv) s.ending (size_of s.place) seq }
 {
-    let live = lv.live;
-    if !live {
-        return false;
-    }
-    let e = s.ending;
-    if run::is_over(e) {
-        return false;
-    }
-    let count = lv.count;
-    if count <= seq {
-        return false;
-    }
-    let at = lv.at;
-    let p = at[seq] as usize;
-    let place = s.place;
-    p < text::size(place)
+    lv.live
+        && !run::is_over(s.ending)
+        && seq < lv.count
+        && (lv.at[seq] as usize) < text::size(s.place)
 }
 
 // A run that begins.
@@ -71,27 +60,14 @@ pub fn begin(place: Place, allowance: u32) -> State
 pub fn parted(s: State, place: Place) -> State
     ensures { result ≡ parted_at place s }
 {
-    let ending = s.ending;
-    State {
-        place,
-        left: s.left,
-        spent: s.spent,
-        ending,
-    }
+    State { place, ..s }
 }
 
 // The run with another ending.
 pub fn ended(s: State, ending: Ending) -> State
     ensures { result ≡ ended_as ending s }
 {
-    let place = s.place;
-    let spent = s.spent;
-    State {
-        place,
-        left: s.left,
-        spent,
-        ending,
-    }
+    State { ending, ..s }
 }
 
 // The run with one try more.
@@ -99,17 +75,15 @@ fn spend(s: State) -> State
     requires { (1 ≤ s.left) × (s.left + s.spent ≤ most_allowance) }
     ensures { result ≡ spent_as (s.left - 1) s }
 {
-    let place = s.place;
-    let ending = s.ending;
     State {
-        place,
         left: s.left - 1,
         spent: s.spent + 1,
-        ending,
+        ..s
     }
 }
 
 // A due record, reached: allowance 0 is Short, depth 0 is Deep, else one is spent.
+#[tactic(auto, unfolding(crate::specs::State::judged_at))]
 fn judge(s: State, lv: Slots, depth: usize) -> Ready
     requires { s.left + s.spent ≤ most_allowance }
     ensures { result ≡ judged_at depth s.left s lv }
@@ -131,20 +105,15 @@ fn judge(s: State, lv: Slots, depth: usize) -> Ready
 fn stop(s: State, lv: Slots, ending: Ending) -> Ready
     ensures { result ≡ stopped_as ending s lv }
 {
-    let at = lv.at;
     Ready {
         go: false,
         state: ended(s, ending),
-        level: Slots {
-            live: false,
-            end: lv.end,
-            count: lv.count,
-            at,
-        },
+        level: Slots { live: false, ..lv },
     }
 }
 
 // A record before its lookup is tried: where it is due, the cursor goes to its position.
+#[tactic(auto, using(crate::specs::Steps::readies))]
 pub fn prepare(
     done: &mut [u32],
     coming: &mut [u32],
@@ -164,23 +133,20 @@ pub fn prepare(
             level: lv,
         };
     }
-    let slots = lv.at;
-    let p = slots[seq] as usize;
-    let here = s.place;
-    let place = text::move_to(done, coming, here, p);
+    let p = lv.at[seq] as usize;
+    let place = text::move_to(done, coming, s.place, p);
     judge(parted(s, place), lv, depth)
 }
 
 // A level ends by moving to its end, except after Deep or Full.
+#[tactic(auto, using(crate::specs::Steps::closings))]
 pub fn finish(done: &mut [u32], coming: &mut [u32], s: State, end: usize) -> State
     requires { Fits done.old coming.old s.place × (end ≤ length (text_of done.old coming.old s.place).glyphs) }
     ensures { Ran done.new coming.new result (closed_at end (run_of done.old coming.old s)) }
 {
-    let ending = s.ending;
-    if run::is_over(ending) {
+    if run::is_over(s.ending) {
         return s;
     }
-    let here = s.place;
-    let place = text::move_to(done, coming, here, end);
+    let place = text::move_to(done, coming, s.place, end);
     parted(s, place)
 }
