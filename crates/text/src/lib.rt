@@ -1,11 +1,13 @@
 // A text in two rows: `done` holds its first d glyphs, `coming` ends with the others, from glyph idx on. The cursor stands between them.
-#![tactic(auto)]
+#![tactic(auto, using(std::proofs::lemmas::Bool::Decides::nat_tests, crate::specs::Laws::sizes), unfolding(glyph::specs::Glyph::limit))]
 
 ghost use Rattle.std.specs.Prelude.{◌≡◌, [], ◌∷◌, ◌+◌, ◌≤◌, ◌<◌, length, get_or, set};
 ghost use Rattle.glyph.specs.Glyph.{limit, glyphs_of, blank};
 ghost use Rattle.text.specs.Text.{text_of, size_of, Fits, Holds, Clear, moved_to, written, replaced, is_full, unfit, past_end};
 
-#[derive(Clone, Copy)]
+use glyph::Glyph;
+
+#[derive(Clone, Copy, Debug, PartialEq, Eq)]
 pub struct Place {
     pub d: usize,
     pub idx: usize,
@@ -16,7 +18,7 @@ pub fn is_unfit(done: &[u32], coming: &[u32], s: Place) -> bool
     ensures { result ≡ unfit done.now coming.now s }
 {
     let words = glyph::WORDS * glyph::LIMIT;
-    (done.len() != words) | ((coming.len() != words) | ((glyph::LIMIT < s.d) | (s.idx < s.d)))
+    done.len() != words || coming.len() != words || glyph::LIMIT < s.d || s.idx < s.d
 }
 
 // A cursor at or past the end of `coming`: refusal 2.
@@ -66,12 +68,11 @@ pub fn replace_one(done: &mut [u32], coming: &[u32], s: Place, id: u32) -> Place
         × (s.d < length (text_of done.old coming.now s).glyphs) }
     ensures { Holds done.new coming.now result (replaced (id ∷ []) (text_of done.old coming.now s)) }
 {
-    let d = s.d;
-    let idx = s.idx;
-    write(done, d, coming, idx, id);
-    let past = d + 1;
-    let next = idx + 1;
-    Place { d: past, idx: next }
+    write(done, s.d, coming, s.idx, id);
+    Place {
+        d: s.d + 1,
+        idx: s.idx + 1,
+    }
 }
 
 // The glyph at the cursor becomes one for each id, and the cursor goes past them. No id deletes it.
@@ -84,16 +85,13 @@ pub fn replace_many(done: &mut [u32], coming: &[u32], s: Place, ids: &[u16]) -> 
 {
     let d = s.d;
     let idx = s.idx;
-    let n = ids.len();
-    let mut k = 0;
-    while k < n {
-        let id = ids[k] as u32;
-        write(done, d + k, coming, idx, id);
-        k += 1;
+    for (k, id) in ids.iter().enumerate() {
+        write(done, d + k, coming, idx, *id as u32);
     }
-    let past = d + n;
-    let next = idx + 1;
-    Place { d: past, idx: next }
+    Place {
+        d: d + ids.len(),
+        idx: idx + 1,
+    }
 }
 
 // Glyph j of the row `to` becomes what is written in place of glyph i of `from`.
@@ -105,12 +103,11 @@ fn write(to: &mut [u32], j: usize, from: &[u32], i: usize, id: u32)
 }
 
 // What is written in place of the glyph g: it keeps everything but the id.
-fn written(id: u32, g: glyph::Glyph) -> glyph::Glyph
+#[tactic(auto, unfolding(glyph::specs::Write::with_id))]
+fn written(id: u32, g: Glyph) -> Glyph
     ensures { result ≡ written id g }
 {
-    let mut w = g;
-    w.id = id;
-    w
+    Glyph { id, ..g }
 }
 
 // The words in neither part become 0. This alone costs the rows' length; it is called once a run.

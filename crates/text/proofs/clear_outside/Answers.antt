@@ -4,10 +4,6 @@ use Rattle.glyph.specs.Glyph.{limit}
 use Rattle.text.specs.Laws.{sizes, cleared_is}
 use Rattle.text.proofs.clear_outside.Goals as goal
 
-pub overflow_sub-n : goal.overflow_sub-n
-unfolding limit
-overflow_sub-n c = let z = sizes c.args.done.now c.args.coming.now c.args.s c.requires in omega arith
-
 pub clear-requires : goal.clear-requires
 unfolding limit
 clear-requires c =

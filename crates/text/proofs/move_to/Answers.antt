@@ -1,24 +1,12 @@
 -- Forth or back, the glyphs between the two places go from one row to the other, which leaves the text. Assumes nothing.
-use Rattle.std.proofs.Common.{arith, rules}
-use Rattle.text.specs.Laws.{sizes, moved_forth, moved_back}
+use Rattle.std.proofs.Common.{rules}
+use Rattle.text.specs.Laws.{moved_forth, moved_back}
 use Rattle.text.proofs.move_to.Goals as goal
-
-pub copy-requires : goal.copy-requires
-copy-requires c =
-    let z = sizes c.args.done.now c.args.coming.now c.args.s c.requires.0 in omega arith
-
-pub overflow_add-result : goal.overflow_add-result
-overflow_add-result c =
-    let z = sizes c.args.done.now c.args.coming.now c.args.s c.requires.0 in omega arith
 
 pub returns-then-d-p : goal.returns-then-d-p
 returns-then-d-p c =
     moved_forth c.args.done.now c.args.coming.now c.args.s c.requires.0 c.copy.new.to c.args.p
     c.copy.auto.to (search rules) c.requires.1 c.copy.ensures
-
-pub copy-requires-2 : goal.copy-requires-2
-copy-requires-2 c =
-    let z = sizes c.args.done.now c.args.coming.now c.args.s c.requires.0 in omega arith
 
 pub returns : goal.returns
 returns c =

@@ -5,10 +5,6 @@ use Rattle.text.specs.Text.{written}
 use Rattle.text.specs.Laws.{sizes, copied_one, replaced_is}
 use Rattle.text.proofs.replace_one.Goals as goal
 
-pub write-requires : goal.write-requires
-write-requires c =
-    let z = sizes c.args.done.now c.args.coming.now c.args.s c.requires.0 in omega arith
-
 pub returns : goal.returns
 returns c = let a = c.args in let y = c.write in
     let z = sizes a.done.now a.coming.now a.s c.requires.0 in

@@ -1,8 +1,0 @@
--- The test is the definition's. Assumes nothing.
-use Rattle.std.proofs.Common.{refl}
-use Rattle.glyph.specs.Glyph.{limit}
-use Rattle.text.proofs.is_past_end.Goals as goal
-
-pub returns : goal.returns
-unfolding limit
-returns c = refl
