@@ -2,7 +2,7 @@
 use Prim.Native.Nat.{ℕ, zero, suc, ◌≤◌, ◌<◌}
 use Rattle.std.proofs.Math.Path.{◌≡◌, refl, ap}
 use Rattle.std.proofs.Common.{sym, ◌∙◌, subst, true≢false, eq-or-lt_of_le}
-use Rattle.std.specs.Prelude.{List, ◌↔◌, Bool, true, false, not, cond, ◌&&◌, ◌||◌, eqb, length, get_or}
+use Rattle.std.specs.Prelude.{List, ◌↔◌, Bool, true, false, not, cond, ◌&&◌, ◌||◌, eqb, length, get_or, Option, Some, None}
 use Rattle.std.proofs.Math.Logic.{⊎_elim}
 use native.Mathlib.Omega.{arith}
 use borrow.Author.Tests.{eq-eqb, ne_eqb, eqb-true}
@@ -10,23 +10,21 @@ use Rattle.glyph.specs.declared.Glyph.{Glyph}
 use Rattle.glyph.specs.Glyph.{blank}
 use Rattle.verdict.specs.declared.Matcher.{Matcher}
 use Rattle.verdict.specs.Verdict.{skip_yes}
-use Rattle.ligature.specs.declared.Base.{Base}
-use Rattle.ligature.specs.declared.Base.TheVariants.{At, Nothing}
 use Rattle.ligature.specs.declared.Ligbase.{Ligbase}
 use Rattle.ligature.specs.declared.Ligbase.TheVariants.{NotChecked, MayNotSkip, MaySkip}
 use Rattle.ligature.specs.Ligature.{attached, together, may_join, base_before, skips_at, base_skips}
 use Rattle.ligature.specs.Search.{base_needed, may_skip, looked}
 
 -- what the glyph at place k makes of the search from after it
-abbrev pub seen : Glyph → ℕ → ℕ → Base → Base
-seen g id k back = cond (eqb g.lig id) (cond (eqb g.comp 0) (At k) back) Nothing
+abbrev pub seen : Glyph → ℕ → ℕ → Option ℕ → Option ℕ
+seen g id k back = cond (eqb g.lig id) (cond (eqb g.comp 0) (Some k) back) None
 
 pub seek_on : (id : ℕ) (gs : List Glyph) (j k : ℕ) (g : Glyph) → j ≡ suc k → g ≡ get_or gs k blank
     → base_before id gs j ≡ seen g id k (base_before id gs k)
 unfolding base_before
 seek_on id gs j k g e eg = rw (e, eg)
 
-pub seek_end : (id : ℕ) (gs : List Glyph) (j : ℕ) → j ≡ 0 → base_before id gs j ≡ Nothing
+pub seek_end : (id : ℕ) (gs : List Glyph) (j : ℕ) → j ≡ 0 → base_before id gs j ≡ None
 unfolding base_before
 seek_end id gs j e = rw e
 
@@ -56,7 +54,8 @@ module _ (id : ℕ) (gs : List Glyph) where
   }
 
   sound_by : (n j : ℕ) (b c : Bool) → eqb (get_or gs n blank).lig id ≡ b → eqb (get_or gs n blank).comp 0 ≡ c
-      → (base_before id gs n ≡ At j → IsBase id gs n j) → cond b (cond c (At n) (base_before id gs n)) Nothing ≡ At j → IsBase id gs (suc n) j
+      → (base_before id gs n ≡ Some j → IsBase id gs n j)
+      → cond b (cond c (Some n) (base_before id gs n)) None ≡ Some j → IsBase id gs (suc n) j
   sound_by n j true true eb ec ih e =
       let z : n ≡ j = cc in
       subst (IsBase id gs (suc n)) z
@@ -71,12 +70,12 @@ module _ (id : ℕ) (gs : List Glyph) where
       more n j (eqb-true (get_or gs n blank).lig id eb) (λ z. true≢false (sym (eq-eqb (get_or gs n blank).comp 0 z) ∙ ec)) (ih e)
   sound_by n j false c eb ec ih e = let z : ◌≡◌ {A = ℕ} 0 1 = cc in absurd (omega arith)
 
-  sound : (n j : ℕ) → base_before id gs n ≡ At j → IsBase id gs n j
+  sound : (n j : ℕ) → base_before id gs n ≡ Some j → IsBase id gs n j
   unfolding base_before
   sound zero j e = let z : ◌≡◌ {A = ℕ} 0 1 = cc in absurd (omega arith)
   sound (suc n) j e = sound_by n j (eqb (get_or gs n blank).lig id) (eqb (get_or gs n blank).comp 0) refl refl (sound n j) e
 
-  complete : (n j : ℕ) → IsBase id gs n j → base_before id gs n ≡ At j
+  complete : (n j : ℕ) → IsBase id gs n j → base_before id gs n ≡ Some j
   unfolding base_before
   complete zero j b = let h = b.inside in absurd (omega arith)
   complete (suc n) j b =
@@ -87,7 +86,7 @@ module _ (id : ℕ) (gs : List Glyph) where
         eq-eqb (get_or gs n blank).lig id (subst (λ (i : ℕ). (get_or gs i blank).lig ≡ id) s b.same),
         eq-eqb (get_or gs n blank).comp 0 (subst (λ (i : ℕ). (get_or gs i blank).comp ≡ 0) s b.whole),
       )
-      (ap At (sym s)))
+      (ap Some (sym s)))
       (λ l.
       rw (
         eq-eqb (get_or gs n blank).lig id (b.after_same n l (omega arith)),
@@ -103,19 +102,19 @@ module _ (id : ℕ) (gs : List Glyph) where
       })))
       (eq-or-lt_of_le le)
 
-  pub base_found : (n j : ℕ) → (base_before id gs n ≡ At j) ↔ IsBase id gs n j
+  pub base_found : (n j : ℕ) → (base_before id gs n ≡ Some j) ↔ IsBase id gs n j
   base_found n j = (sound n j, complete n j)
 
   -- nothing is found exactly when there is no base
-  pub no_base : (n : ℕ) → (base_before id gs n ≡ Nothing) ↔ ((j : ℕ) → IsBase id gs n j → ⊥)
+  pub no_base : (n : ℕ) → (base_before id gs n ≡ None) ↔ ((j : ℕ) → IsBase id gs n j → ⊥)
   no_base n = (
     λ e j b. let f = complete n j b in let z : ◌≡◌ {A = ℕ} 0 1 = cc in omega arith,
     none (base_before id gs n) refl,
   )
     where
-      none : (b : Base) → base_before id gs n ≡ b → ((j : ℕ) → IsBase id gs n j → ⊥) → base_before id gs n ≡ Nothing
-      none (At j) e h = absurd (h j (sound n j e))
-      none Nothing e h = e
+      none : (b : Option ℕ) → base_before id gs n ≡ b → ((j : ℕ) → IsBase id gs n j → ⊥) → base_before id gs n ≡ None
+      none (Some j) e h = absurd (h j (sound n j e))
+      none None e h = e
 
 -- a base that the matcher ignores
 pub record IgnoredBase (m : Matcher) (sets : List ℕ) (id : ℕ) (gs : List Glyph) : Type 0 where
@@ -124,9 +123,9 @@ pub record IgnoredBase (m : Matcher) (sets : List ℕ) (id : ℕ) (gs : List Gly
   pub ignored : skip_yes m sets (get_or gs place blank) ≡ true
 
 module _ (m : Matcher) (sets : List ℕ) (id : ℕ) (gs : List Glyph) where
-  by_base : (b : Base) → base_before id gs (length gs) ≡ b → skips_at m sets gs b ≡ true → IgnoredBase m sets id gs
-  by_base (At j) e y = record { place = j; base = (base_found id gs (length gs) j).0 e; ignored = y }
-  by_base Nothing e y = absurd (true≢false (sym y))
+  by_base : (b : Option ℕ) → base_before id gs (length gs) ≡ b → skips_at m sets gs b ≡ true → IgnoredBase m sets id gs
+  by_base (Some j) e y = record { place = j; base = (base_found id gs (length gs) j).0 e; ignored = y }
+  by_base None e y = absurd (true≢false (sym y))
 
   pub base_skips_lem : (base_skips m sets id gs ≡ true) ↔ IgnoredBase m sets id gs
   unfolding base_skips

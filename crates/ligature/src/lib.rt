@@ -13,48 +13,45 @@ ghost use Rattle.ligature.specs.Search.{base_needed, may_skip, looked};
 use glyph::Glyph;
 use verdict::Matcher;
 
-#[derive(Clone, Copy)]
-pub enum Base {
-    At(usize),
-    Nothing,
-}
-
 // What is known of the base: the search is made at most once a match, and only when it is needed.
-#[derive(Clone, Copy)]
+#[derive(Clone, Copy, Debug, PartialEq, Eq)]
 pub enum Ligbase {
     NotChecked,
     MayNotSkip,
     MaySkip,
 }
 
-// Back over glyphs, from the last to the first: the base of the ligature id.
-pub fn find_base(row: &[u32], id: u8) -> Base
+// Back over glyphs, from the last to the first: the base of the ligature id. The place is counted by hand, where Rust would say
+// `for j in (0..count).rev()`, since 01 asks here for a backward loop that yields found or not found by `break`, left from inside a nested test.
+#[tactic(auto, using(crate::proofs::Seek::seeking))]
+pub fn find_base(row: &[u32], id: u8) -> Option<usize>
     ensures { result ≡ base_before id (glyphs_of row.now) (length (glyphs_of row.now)) }
 {
     let mut j = glyph::count(row);
     loop {
         if j == 0 {
-            break Base::Nothing;
+            break None;
         }
         j -= 1;
         let g = glyph::read(row, j);
         if g.lig == id {
             if g.comp == 0 {
-                break Base::At(j);
+                break Some(j);
             }
         } else {
-            break Base::Nothing;
+            break None;
         }
     }
 }
 
 // An ignorable base is found.
+#[tactic(auto, using(crate::proofs::Seek::base_inside), unfolding(crate::specs::Ligature::base_skips))]
 fn is_base_skipped(row: &[u32], id: u8, m: Matcher, sets: &[u16]) -> bool
     ensures { result ≡ base_skips m sets.now id (glyphs_of row.now) }
 {
     match find_base(row, id) {
-        Base::At(j) => verdict_skip::is_skip_yes(m, sets, glyph::read(row, j)),
-        Base::Nothing => false,
+        Some(j) => verdict_skip::is_skip_yes(m, sets, glyph::read(row, j)),
+        None => false,
     }
 }
 
@@ -65,6 +62,7 @@ fn is_attached(g: Glyph) -> bool
 }
 
 // The first is attached, and the later glyph not to the same component: only a base lets it be taken.
+#[tactic(auto, unfolding(crate::specs::Search::base_needed))]
 fn is_base_needed(first: Glyph, this: Glyph) -> bool
     ensures { result ≡ base_needed first this }
 {
@@ -82,13 +80,8 @@ pub fn look_for_base(
 ) -> Ligbase
     ensures { result ≡ looked known (base_needed first this) (base_skips m sets.now first.lig (glyphs_of row.now)) }
 {
-    match known {
-        Ligbase::NotChecked => {}
-        Ligbase::MayNotSkip => return Ligbase::MayNotSkip,
-        Ligbase::MaySkip => return Ligbase::MaySkip,
-    }
-    if !is_base_needed(first, this) {
-        return Ligbase::NotChecked;
+    if known != Ligbase::NotChecked || !is_base_needed(first, this) {
+        return known;
     }
     if is_base_skipped(row, first.lig, m, sets) {
         return Ligbase::MaySkip;
@@ -96,22 +89,13 @@ pub fn look_for_base(
     Ligbase::MayNotSkip
 }
 
-fn is_may_skip(base: Ligbase) -> bool
-    ensures { result ≡ may_skip base }
-{
-    match base {
-        Ligbase::NotChecked => false,
-        Ligbase::MayNotSkip => false,
-        Ligbase::MaySkip => true,
-    }
-}
-
 // A later glyph may be taken with the first.
+#[tactic(auto, unfolding(crate::specs::Ligature::may_join))]
 pub fn may_join(first: Glyph, this: Glyph, base: Ligbase) -> bool
     ensures { result ≡ may_join first this (may_skip base) }
 {
     if is_attached(first) {
-        return ((this.lig == first.lig) & (this.comp == first.comp)) | is_may_skip(base);
+        return ((this.lig == first.lig) & (this.comp == first.comp)) | (base == Ligbase::MaySkip);
     }
     !is_attached(this) | (this.lig == first.lig)
 }
