@@ -19,7 +19,7 @@ use glyph::Glyph;
 use ligature::Ligbase;
 use matching::{NoMatch, Terms};
 use std::io::{Read, Stdin, Stdout, Write};
-use tape_frame::Head;
+use tape_frame::{Head, Lists};
 use verdict::{Matcher, Sign, Test};
 
 // Bytes of a read.
@@ -162,14 +162,7 @@ fn tell_match(
     answer::in_words(line, found);
 }
 
-fn tell_frame(
-    line: &mut Line,
-    number: u64,
-    h: Head,
-    values: &[u32; tape_frame::MOST_VALUES],
-    done: &[u32; tape_frame::ROW],
-    coming: &[u32; tape_frame::ROW],
-)
+fn tell_frame(line: &mut Line, number: u64, h: Head, lists: &Lists)
     requires { Bounded h }
 {
     let lookup = Terms {
@@ -177,9 +170,9 @@ fn tell_frame(
         mask: h.mask,
         props: h.props,
     };
-    let asked = &values[..h.values];
-    let before = &done[..glyph::WORDS * h.done];
-    let text = &coming[..glyph::WORDS * h.coming];
+    let asked = &lists.values[..h.values];
+    let before = &lists.done[..glyph::WORDS * h.done];
+    let text = &lists.coming[..glyph::WORDS * h.coming];
     head::tell(line, number, h);
     head::values(line, asked);
     tell_match(line, before, text, h.cursor, lookup, asked);
@@ -201,12 +194,14 @@ fn tell_answer(frame: &[u8], line: &mut Line) {
 
 fn tell_line(out: Stdout, frame: &[u8], number: u64) -> Result<(), Lost> {
     let mut line = Line::new(out);
-    let mut values = [0u32; tape_frame::MOST_VALUES];
-    let mut done = [0u32; tape_frame::ROW];
-    let mut coming = [0u32; tape_frame::ROW];
-    match tape_decode::decode(frame, &mut values, &mut done, &mut coming) {
+    let mut lists = Lists {
+        values: [0; tape_frame::MOST_VALUES],
+        done: [0; tape_frame::ROW],
+        coming: [0; tape_frame::ROW],
+    };
+    match tape_decode::decode(frame, &mut lists) {
         None => head::no_frame(&mut line, number, explain_line::why_none(frame)),
-        Some(h) => tell_frame(&mut line, number, h, &values, &done, &coming),
+        Some(h) => tell_frame(&mut line, number, h, &lists),
     }
     tell_answer(frame, &mut line);
     if line.is_lost() {
