@@ -1,8 +1,9 @@
 -- No second answer: what `cb_run`'s contract says decides every number of its answer and every word of both rows, refusals too.
-use Rattle.std.specs.Prelude.{◌≡◌, List, ℕ}
+use Rattle.std.specs.Prelude.{◌≡◌, List, ℕ, Result}
 use Rattle.std.proofs.Common.{sym, ap, ◌∙◌}
 use Rattle.glyph.specs.Lossless.{Small}
 use Rattle.text.specs.declared.Place.{Place}
+use Rattle.run.specs.declared.RunRefusal.{RunRefusal}
 use Rattle.run_calls.specs.declared.RunAnswer.{RunAnswer}
 use Rattle.run_calls.specs.Calls.{Handed, checked_all, run_says, Said}
 use Rattle.run_calls.specs.Decided.{run_decided}
@@ -27,7 +28,7 @@ module _ (done coming : List ℕ) (place : Place) (sets book records : List ℕ)
   -- what the contract says of the rows after the call and of its answer
   abbrev pub Ended : List ℕ → List ℕ → Ran → Type 0
   Ended done' coming' r =
-      (a : RunAnswer)
+      (a : Result RunAnswer RunRefusal)
       × (Said handed allowance depth done' coming' a × (r ≡ ran_of a))
 
   pub ran_decided : (done' coming' : List ℕ) (r : Ran) (done'' coming'' : List ℕ) (r' : Ran) → Small done' → Small coming' → Small done''

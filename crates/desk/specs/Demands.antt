@@ -1,6 +1,6 @@
 -- Demands 1 and 3 of `cb_run`, in the numbers that it answers with (01, "When the desk says no", "Nailing an answer down"). Said of any answer and
 -- rows that meet its contract, so of every call of it.
-use Rattle.std.specs.Prelude.{◌≡◌, refl, List, [], ◌∷◌, ◌↔◌, ℕ, ◌≤◌, ◌<◌, take}
+use Rattle.std.specs.Prelude.{◌≡◌, refl, List, [], ◌∷◌, ◌↔◌, ℕ, ⊤, Result, Ok, Err, ◌≤◌, ◌<◌, take}
 use Rattle.std.proofs.Common.{sym, ap, subst, ◌∙◌, inl}
 use mathlib.Core.Logic.Iff
 use Rattle.glyph.specs.Lossless.{Small}
@@ -8,22 +8,20 @@ use Rattle.glyph.specs.Order.{RefusedBy}
 use Rattle.glyph.specs.Reply.{replies, number_in, has_values}
 use Rattle.text.specs.declared.Place.{Place}
 use Rattle.text.specs.Rows.{HoldsOnly}
-use Rattle.matching.specs.Answers.{slotted}
 use Rattle.book.specs.Encode.{Narrow}
-use Rattle.run.specs.declared.RunEnding.{RunEnding}
-use Rattle.run.specs.Numbers.{run_number, run_refusal_number}
+use Rattle.run.specs.declared.RunRefusal.{RunRefusal}
+use Rattle.run.specs.Numbers.{run_refusal_number}
 use Rattle.run_calls.specs.declared.RunAnswer.{RunAnswer}
-use Rattle.run_refuse.specs.declared.Checked.{Checked}
-use Rattle.run_calls.specs.Calls.{Handed, checked_all, SaidBy, Said, run_says, run_reply}
+use Rattle.run_calls.specs.Calls.{Handed, checked_all, SaidBy, Said, run_says, run_reply, place_by}
 use Rattle.run_calls.specs.Lines.{Limited, Beyond}
 use Rattle.run_calls.specs.Handed.{SameText, Left, place_left, Called, left_number, Ends, run_lines, Acceptable}
-use Rattle.run_calls.specs.Replies.{ending_ends, refusal_not_end}
+use Rattle.run_calls.specs.Replies.{ending_ends, refusal_not_end, leaves_number}
 use Rattle.run_calls.specs.Demand1.{MetAllowance0, MetDepth0, MetFull, demand_1}
 use Rattle.run_calls.specs.Demand3.{demand_3}
 use Rattle.desk.specs.declared.matches.Matched.{Matched}
 use Rattle.desk.specs.declared.nestings.Switches.{Switches}
 use Rattle.desk.specs.declared.nestings.Ran.{Ran}
-use Rattle.desk.specs.Runs.{match_from, given_from, ran_of}
+use Rattle.desk.specs.Runs.{match_from, given_from, refused_ran, ran_of}
 
 -- what the call is handed: all but the allowance and the depth
 pub record RanHanded : Type 0 where
@@ -57,14 +55,10 @@ pub record RanLeft : Type 0 where
 
 -- a call: what the contract of `cb_run` says; and what the types of words hold (run_calls/Handed.Called)
 pub record RanCalled (h : RanHanded) (allowance depth : ℕ) (l : RanLeft) : Type 0 where
-  pub said : (a : RunAnswer) × (Said (handed_by h) allowance depth l.done l.coming a × (l.answer ≡ ran_of a))
+  pub said : (a : Result RunAnswer RunRefusal) × (Said (handed_by h) allowance depth l.done l.coming a × (l.answer ≡ ran_of a))
   pub done_words : Small l.done
   pub coming_words : Small l.coming
   pub book_words : Narrow h.book
-
--- a refusal: its number, and 0 everywhere else
-abbrev pub refused_ran : ℕ → Ran
-refused_ran n = record { number = n; spent = 0; d = 0; idx = 0; count = 0; positions = slotted [] }
 
 abbrev pub ran_number : RanLeft → ℕ
 ran_number l = l.answer.number
@@ -95,32 +89,36 @@ pub record RanDemand3 (h h' : RanHanded) : Type 0 where
 
 -- ---- a call keeps them, as the room's call below it does
 
-number_is : (a : RunAnswer) (e : RunEnding) → a.ending ≡ e → (run_reply a).number ≡ run_number a.ending
-number_is a (RunEnding.Ended e) q = rw q
-number_is a (RunEnding.Refused why) q = rw q
+number_is : (r : Result RunAnswer RunRefusal) → (run_reply r).number ≡ (ran_of r).number
+number_is (Ok a) = refl
+number_is (Err why) = refl
+
+-- d and idx, which are 0 of a refusal
+place_is : (r : Result RunAnswer RunRefusal) → place_by r ≡ record { d = (ran_of r).d; idx = (ran_of r).idx }
+place_is (Ok a) = refl
+place_is (Err why) = refl
 
 -- a reply of 0 has the number spent before its other values
-finished_values : (a : RunAnswer) (e : RunEnding) → a.ending ≡ e → run_number a.ending ≡ 0
-    → run_reply a ≡ replies 0 (a.spent ∷ a.d ∷ a.idx ∷ a.count ∷ take a.count a.positions)
-finished_values a (RunEnding.Ended e) q z =
-    rw q (ap (λ (n : ℕ). replies n (a.spent ∷ a.d ∷ a.idx ∷ a.count ∷ take a.count a.positions)) (rw q at z))
-finished_values a (RunEnding.Refused why) q z = absurd (refusal_not_end why (inl (rw q at z)))
+abbrev values_of : Ran → List ℕ
+values_of r = r.d ∷ r.idx ∷ r.count ∷ take r.count r.positions
+
+finished_values : (r : Result RunAnswer RunRefusal) → (ran_of r).number ≡ 0 → run_reply r ≡ replies 0 ((ran_of r).spent ∷ values_of (ran_of r))
+finished_values (Ok a) z = ap (λ (n : ℕ). replies n (a.spent ∷ values_of (ran_of (Ok a)))) z
+finished_values (Err why) z = absurd (refusal_not_end why (inl z))
 
 -- a number that no run ends with is a reply without values
-refused_as : (a : RunAnswer) (e : RunEnding) → a.ending ≡ e → (n : ℕ) → ((run_number a.ending ≡ n) × (Ends n → ⊥)) ↔ (run_reply a ≡ replies n [])
-refused_as a (RunEnding.Ended e) q n = (
-  λ s. absurd (s.1 (subst Ends (ap run_number (sym q) ∙ s.0) (ending_ends e))),
-  λ r. absurd (has_values (rw q at r)),
+refused_as : (r : Result RunAnswer RunRefusal) (n : ℕ) → (((ran_of r).number ≡ n) × (Ends n → ⊥)) ↔ (run_reply r ≡ replies n [])
+refused_as (Ok a) n = (
+  λ s. absurd (s.1 (subst Ends s.0 (ending_ends a.ending))),
+  λ e. absurd (has_values e),
 )
-refused_as a (RunEnding.Refused why) q n = (
-  λ s. rw q (ap (λ (k : ℕ). replies k []) (ap run_number (sym q) ∙ s.0)),
-  λ r.
-      let m : run_refusal_number why ≡ n = ap number_in (rw q at r) in
-      (ap run_number q ∙ m, λ x. refusal_not_end why (subst Ends (sym m) x)),
+refused_as (Err why) n = (
+  λ s. ap (λ (k : ℕ). replies k []) s.0,
+  λ e. let m : run_refusal_number why ≡ n = ap number_in e in (m, λ x. refusal_not_end why (subst Ends (sym m) x)),
 )
 
 module _ (h : RanHanded) (allowance depth : ℕ) (l : RanLeft) (c : RanCalled h allowance depth l) where
-  abbrev a : RunAnswer
+  abbrev a : Result RunAnswer RunRefusal
   a = c.said.0
 
   abbrev below : Left
@@ -129,22 +127,22 @@ module _ (h : RanHanded) (allowance depth : ℕ) (l : RanLeft) (c : RanCalled h 
   called : Called (handed_by h) allowance depth below
   called = record { said = c.said.1.0; done_words = c.done_words; coming_words = c.coming_words; book_words = c.book_words }
 
-  number_of : ran_number l ≡ run_number a.ending
+  number_of : ran_number l ≡ (ran_of a).number
   number_of = ap (λ (r : Ran). r.number) c.said.1.1
 
   same_number : left_number below ≡ ran_number l
-  same_number = number_is a a.ending refl ∙ sym number_of
+  same_number = number_is a ∙ sym number_of
 
   -- what the contract says of a refusal
-  nothing_changed : (k : Checked) → SaidBy k (run_says (handed_by h) allowance depth) h.done h.coming l.done l.coming a
+  nothing_changed : (k : Result ⊤ RunRefusal) → SaidBy k (run_says (handed_by h) allowance depth) h.done h.coming l.done l.coming a
       → (Ends (ran_number l) → ⊥)
       → (l.answer ≡ refused_ran (ran_number l)) × (l.done ≡ h.done) × (l.coming ≡ h.coming)
-  nothing_changed (Checked.Refused why) s n =
+  nothing_changed (Err why) s n =
       let e : l.answer ≡ refused_ran (run_refusal_number why) = c.said.1.1 ∙ ap ran_of s.0 in
       (e ∙ ap refused_ran (sym (ap (λ (r : Ran). r.number) e)), s.1, s.2)
-  nothing_changed Checked.Accepted s n =
+  nothing_changed (Ok ok) s n =
       let v = run_says (handed_by h) allowance depth in
-      absurd (n (subst Ends (sym (number_of ∙ ap run_number s.ending)) (ending_ends v.run.tally.ending)))
+      absurd (n (subst Ends (sym (leaves_number v l.done l.coming a s) ∙ same_number) (ending_ends v.run.tally.ending)))
 
   with_number : {M : Type 0} (n : ℕ) → (left_number below ≡ n) ↔ M → (ran_number l ≡ n) ↔ M
   with_number n m = (λ e. m.0 (same_number ∙ e), λ x. sym same_number ∙ m.1 x)
@@ -154,7 +152,7 @@ module _ (h : RanHanded) (allowance depth : ℕ) (l : RanLeft) (c : RanCalled h 
       let room = demand_1 (handed_by h) allowance depth below called in
       record {
         refused = λ n.
-            let r = Iff.trans (refused_as a a.ending refl n) (room.refused n) in (
+            let r = Iff.trans (refused_as a n) (room.refused n) in (
               λ s. r.0 (sym number_of ∙ s.0, s.1),
               λ s. let m = r.1 s in (number_of ∙ m.0, m.1),
             );
@@ -170,7 +168,8 @@ module _ (h : RanHanded) (allowance depth : ℕ) (l : RanLeft) (c : RanCalled h 
             let o : HoldsOnly l.done l.coming (place_left below) (run_says (handed_by h) allowance depth).run.text =
             room.rows (subst Ends (sym same_number) e) in
             subst (λ (r : Ran). HoldsOnly l.done l.coming (record { d = r.d; idx = r.idx }) (run_says (handed_by h) allowance depth).run.text)
-            (sym c.said.1.1) o;
+            (sym c.said.1.1)
+            (subst (λ (p : Place). HoldsOnly l.done l.coming p (run_says (handed_by h) allowance depth).run.text) (place_is a) o);
       }
 
 -- for every two calls of the same text
@@ -189,10 +188,10 @@ ran_demand_3 h h' s =
           sym (same_number h' a' d' l' c') ∙ ap number_in m;
       less_short = λ a d a' l l' c c' z lt.
           let r = c.said.0 in
-          let n : run_number r.ending ≡ 0 = sym (number_of h a d l c) ∙ z in
-          let e : l.answer.spent ≡ r.spent = ap (λ (x : Ran). x.spent) c.said.1.1 in
-          let few : a' < r.spent = subst (λ (k : ℕ). a' < k) e lt in
+          let n : (ran_of r).number ≡ 0 = sym (number_of h a d l c) ∙ z in
+          let e : l.answer.spent ≡ (ran_of r).spent = ap (λ (x : Ran). x.spent) c.said.1.1 in
+          let few : a' < (ran_of r).spent = subst (λ (k : ℕ). a' < k) e lt in
           sym (same_number h' a' d l' c')
-          ∙ room.less_short a d a' r.spent (r.d ∷ r.idx ∷ r.count ∷ take r.count r.positions) (below h a d l c) (below h' a' d l' c')
-          (called h a d l c) (called h' a' d l' c') (finished_values r r.ending refl n) few;
+          ∙ room.less_short a d a' (ran_of r).spent (values_of (ran_of r)) (below h a d l c) (below h' a' d l' c')
+          (called h a d l c) (called h' a' d l' c') (finished_values r n) few;
     }

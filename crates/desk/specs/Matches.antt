@@ -1,8 +1,8 @@
 -- For C, a layout of our own: what the matchers answer as numbers: number and values of each answer, as the room's replies have them.
-use Rattle.std.specs.Prelude.{List, ℕ, get_or}
+use Rattle.std.specs.Prelude.{List, ℕ, Result, get_or}
 use Rattle.matching.specs.declared.Terms.{Terms}
 use Rattle.matching.specs.declared.InputMatch.{InputMatch}
-use Rattle.matching.specs.declared.ContextMatch.{ContextMatch}
+use Rattle.matching.specs.declared.NoContext.{NoContext}
 use Rattle.matching.specs.Answers.{input_reply, context_reply}
 use Rattle.desk.specs.declared.walks.Lookup.{Lookup}
 use Rattle.desk.specs.declared.matches.Matched.{Matched}
@@ -21,5 +21,5 @@ abbrev pub matched_of : InputMatch → Matched
 matched_of m = let a = input_reply m in
     matched_with a.number (get_or a.values 0 0) (get_or a.values 1 0) m.count m.positions
 
-abbrev pub placed_of : ContextMatch → Placed
+abbrev pub placed_of : Result ℕ NoContext → Placed
 placed_of c = let a = context_reply c in record { number = a.number; place = get_or a.values 0 0 }

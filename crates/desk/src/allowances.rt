@@ -28,8 +28,7 @@ pub extern "C" fn cb_budget_work(left: &mut [u64; 2], visits: u64) -> bool
         × (left.new ≡ budget_words (worked visits (budget_of left.old)).left) }
 {
     let c = Budget::new(left[0], left[1]).work(visits);
-    let b = c.left;
-    *left = [b.work, b.bytes];
+    *left = [c.left.work, c.left.bytes];
     c.charge.is_ok()
 }
 
@@ -39,7 +38,6 @@ pub extern "C" fn cb_budget_alloc(left: &mut [u64; 2], count: u64, size: u64) ->
         × (left.new ≡ budget_words (allocated count size (budget_of left.old)).left) }
 {
     let c = Budget::new(left[0], left[1]).alloc(count, size);
-    let b = c.left;
-    *left = [b.work, b.bytes];
+    *left = [c.left.work, c.left.bytes];
     c.charge.is_ok()
 }

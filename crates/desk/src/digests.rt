@@ -11,28 +11,21 @@ use rule_digest::RuleSetDigest;
 pub extern "C" fn cb_digest_new(masks: &mut [u64; 3])
     ensures { Says (digest_of masks.new) none_set }
 {
-    let d = SetDigest::new();
-    let m = d.masks;
-    *masks = m;
+    *masks = SetDigest::new().masks;
 }
 
 #[unsafe(no_mangle)]
 pub extern "C" fn cb_digest_full(masks: &mut [u64; 3])
     ensures { Says (digest_of masks.new) all_set }
 {
-    let d = SetDigest::full();
-    let m = d.masks;
-    *masks = m;
+    *masks = SetDigest::full().masks;
 }
 
 #[unsafe(no_mangle)]
 pub extern "C" fn cb_digest_clear(masks: &mut [u64; 3])
     ensures { Says (digest_of masks.new) none_set }
 {
-    let m = *masks;
-    let d = SetDigest { masks: m }.clear();
-    let m = d.masks;
-    *masks = m;
+    *masks = SetDigest { masks: *masks }.clear().masks;
 }
 
 #[unsafe(no_mangle)]
@@ -42,29 +35,21 @@ pub extern "C" fn cb_digest_union(masks: &mut [u64; 3], other: &[u64; 3])
 {
     let m = *masks;
     let o = *other;
-    let d = SetDigest { masks: m }.union(SetDigest { masks: o });
-    let m = d.masks;
-    *masks = m;
+    *masks = SetDigest { masks: m }.union(SetDigest { masks: o }).masks;
 }
 
 #[unsafe(no_mangle)]
 pub extern "C" fn cb_digest_add(masks: &mut [u64; 3], g: u32)
     ensures { Says (digest_of masks.new) (added g (bits_of (digest_of masks.old))) }
 {
-    let m = *masks;
-    let d = SetDigest { masks: m }.add(g);
-    let m = d.masks;
-    *masks = m;
+    *masks = SetDigest { masks: *masks }.add(g).masks;
 }
 
 #[unsafe(no_mangle)]
 pub extern "C" fn cb_digest_add_array(masks: &mut [u64; 3], glyphs: &[u32])
     ensures { Says (digest_of masks.new) (added_all glyphs.now (bits_of (digest_of masks.old))) }
 {
-    let m = *masks;
-    let d = SetDigest { masks: m }.add_array(glyphs);
-    let m = d.masks;
-    *masks = m;
+    *masks = SetDigest { masks: *masks }.add_array(glyphs).masks;
 }
 
 #[unsafe(no_mangle)]
@@ -72,11 +57,8 @@ pub extern "C" fn cb_digest_add_range(masks: &mut [u64; 3], a: u32, b: u32) -> b
     ensures { Says (digest_of masks.new) (ranged a b (bits_of (digest_of masks.old)))
         × (result ≡ range_yes a b (bits_of (digest_of masks.old))) }
 {
-    let m = *masks;
-    let d = SetDigest { masks: m }.add_range(a, b);
-    let s = d.digest;
-    let m = s.masks;
-    *masks = m;
+    let d = SetDigest { masks: *masks }.add_range(a, b);
+    *masks = d.digest.masks;
     d.yes
 }
 
@@ -84,17 +66,14 @@ pub extern "C" fn cb_digest_add_range(masks: &mut [u64; 3], a: u32, b: u32) -> b
 pub extern "C" fn cb_digest_may_have(masks: &[u64; 3], g: u32) -> bool
     ensures { result ≡ may_have (bits_of (digest_of masks.now)) g }
 {
-    let m = *masks;
-    SetDigest { masks: m }.may_have(g)
+    SetDigest { masks: *masks }.may_have(g)
 }
 
 #[unsafe(no_mangle)]
 pub extern "C" fn cb_digest_may_intersect(masks: &[u64; 3], other: &[u64; 3]) -> bool
     ensures { result ≡ may_intersect (bits_of (digest_of masks.now)) (bits_of (digest_of other.now)) }
 {
-    let m = *masks;
-    let o = *other;
-    SetDigest { masks: m }.may_intersect(SetDigest { masks: o })
+    SetDigest { masks: *masks }.may_intersect(SetDigest { masks: *other })
 }
 
 #[unsafe(no_mangle)]

@@ -7,7 +7,7 @@ ghost use Rattle.desk.specs.Matches.{terms_for, matched_with, matched_of, placed
 
 use crate::walks;
 use crate::walks::Lookup;
-use matching::{ContextMatch, InputAnswer, InputMatch};
+use matching::{ContextMatch, InputMatch, NoContext, NoMatch, Success};
 use verdict::Test;
 
 // 0 with end, total, count and positions; 4 with the extent in `end`; or a refusal's number. Unused slots are 0.
@@ -119,9 +119,8 @@ pub extern "C" fn cb_match_backtrack<'a>(
 fn asked(l: Lookup) -> matching::Terms
     ensures { result ≡ terms_for l }
 {
-    let settings = walks::settings(l);
     matching::Terms {
-        settings,
+        settings: walks::settings(l),
         mask: l.mask,
         props: l.props,
     }
@@ -130,14 +129,13 @@ fn asked(l: Lookup) -> matching::Terms
 fn input_told(m: InputMatch) -> Matched
     ensures { result ≡ matched_of m }
 {
-    let answer = m.answer;
     let count = m.count;
     let positions = m.positions;
-    match answer {
-        InputAnswer::Matched { end, total } => told(0, end, total, count, positions),
-        InputAnswer::Refused(why) => told(matching::refusal_number(why), 0, 0, count, positions),
-        InputAnswer::Lost(extent) => told(4, extent, 0, count, positions),
-        InputAnswer::Ligature => told(5, 0, 0, count, positions),
+    match m.answer {
+        Ok(Success { end, total }) => told(0, end, total, count, positions),
+        Err(NoMatch::Refused(why)) => told(why as u8, 0, 0, count, positions),
+        Err(NoMatch::Lost(extent)) => told(4, extent, 0, count, positions),
+        Err(NoMatch::Ligature) => told(5, 0, 0, count, positions),
     }
 }
 
@@ -157,12 +155,12 @@ fn context_told(c: ContextMatch) -> Placed
     ensures { result ≡ placed_of c }
 {
     match c {
-        ContextMatch::Matched(place) => Placed { number: 0, place },
-        ContextMatch::Refused(why) => Placed {
-            number: matching::refusal_number(why),
+        Ok(place) => Placed { number: 0, place },
+        Err(NoContext::Refused(why)) => Placed {
+            number: why as u8,
             place: 0,
         },
-        ContextMatch::Lost(extent) => Placed {
+        Err(NoContext::Lost(extent)) => Placed {
             number: 4,
             place: extent,
         },

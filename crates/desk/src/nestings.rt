@@ -1,13 +1,14 @@
 // A run of records over a text, and whether a book reads.
-ghost use Rattle.std.specs.Prelude.{◌≡◌};
+ghost use Rattle.std.specs.Prelude.{◌≡◌, Result};
 ghost use Rattle.book.specs.Book.{read_book, is_read};
+ghost use Rattle.run.specs.declared.RunRefusal.{RunRefusal as Refusal};
 ghost use Rattle.run_calls.specs.declared.RunAnswer.{RunAnswer as Answer};
 ghost use Rattle.run_calls.specs.Calls.{Said};
 ghost use Rattle.desk.specs.Runs.{match_from, given_from, ran_of};
 
 use crate::matches::Matched;
 use matching::InputMatch;
-use run::Given;
+use run::{Given, RunRefusal};
 use run_calls::RunAnswer;
 
 // The three switches and the lookup mask. A run is GSUB.
@@ -53,7 +54,7 @@ pub extern "C" fn cb_run(
     allowance: u32,
     depth: usize,
 ) -> Ran
-    ensures { (a : Answer) × (Said (record {
+    ensures { (a : Result Answer Refusal) × (Said (record {
       done = done.old;
       coming = coming.old;
       place = record { d = d; idx = idx };
@@ -82,12 +83,10 @@ pub extern "C" fn cb_run(
 fn match_from(m: Matched) -> InputMatch
     ensures { result ≡ match_from m }
 {
-    let positions = m.positions;
-    let answer = matching::answer_from(m.number, m.end, m.total);
     InputMatch {
-        answer,
+        answer: matching::answer_from(m.number, m.end, m.total),
         count: m.count,
-        positions,
+        positions: m.positions,
     }
 }
 
@@ -102,18 +101,25 @@ fn given(s: Switches) -> Given
     }
 }
 
-fn told(a: RunAnswer) -> Ran
-    ensures { result ≡ ran_of a }
+fn told(answer: Result<RunAnswer, RunRefusal>) -> Ran
+    ensures { result ≡ ran_of answer }
 {
-    let ending = a.ending;
-    let positions = a.positions;
-    let number = run::number_of(ending);
-    Ran {
-        number,
-        spent: a.spent,
-        d: a.d,
-        idx: a.idx,
-        count: a.count,
-        positions,
+    match answer {
+        Ok(a) => Ran {
+            number: a.ending as u8,
+            spent: a.spent,
+            d: a.d,
+            idx: a.idx,
+            count: a.count,
+            positions: a.positions,
+        },
+        Err(why) => Ran {
+            number: why as u8,
+            spent: 0,
+            d: 0,
+            idx: 0,
+            count: 0,
+            positions: [0; 64],
+        },
     }
 }
