@@ -17,4 +17,3 @@ abbrev pub acted_by : List ℕ → Entry → Run → Run
 acted_by ws (Entry.One props from to) x = one_on from to x
 acted_by ws (Entry.Many props from ids) x = many_on from (part_of ws ids) x
 acted_by ws (Entry.Chain props parts) x = x
-acted_by ws Entry.Missing x = x

@@ -51,17 +51,10 @@ pub fn act(done: &mut [u32], coming: &mut [u32], book: &[u16], e: Entry, s: Stat
         (acted_by book.now e (run_of done.old coming.old s)) }
 {
     match e {
-        Entry::One { props: _, from, to } => act_one(done, coming, s, from, to),
-        Entry::Many {
-            props: _,
-            from,
-            ids,
-        } => {
-            let a = ids.from;
-            let z = ids.to;
-            act_many(done, coming, s, from, &book[a..z])
+        Entry::One { from, to, .. } => act_one(done, coming, s, from, to),
+        Entry::Many { from, ids, .. } => {
+            act_many(done, coming, s, from, &book[ids.from..ids.to])
         }
-        Entry::Chain { props: _, parts: _ } => s,
-        Entry::Missing => s,
+        Entry::Chain { .. } => s,
     }
 }
