@@ -1,5 +1,5 @@
 -- The code's side: the first records as words in an array.
-use Rattle.std.specs.Prelude.{◌≡◌, cond, List, ℕ, ◌+◌, ◌*◌, leb, length, set, take, replicate}
+use Rattle.std.specs.Prelude.{◌≡◌, List, ℕ, ◌+◌, ◌*◌, min, length, set, take, replicate}
 use Rattle.book.specs.Book.{most_records}
 use Rattle.run_record_structs.specs.declared.Record.{Record}
 use Rattle.run_record_structs.specs.declared.Pairs.{Pairs}
@@ -10,8 +10,8 @@ abbrev pub most_pairs : ℕ
 most_pairs = most_records + 1
 
 -- how many of n records are kept
-unfoldable pub pairs_kept : ℕ → ℕ
-pairs_kept n = cond (leb most_pairs n) most_pairs n
+abbrev pub pairs_kept : ℕ → ℕ
+pairs_kept n = min n most_pairs
 
 -- what would stand past the last record
 abbrev pub no_record : Record

@@ -1,5 +1,5 @@
 -- Reading structs loses nothing, an array is filled record after record, and what is kept of a list of records is refused or run as the whole list.
-use Rattle.std.specs.Prelude.{◌≡◌, Bool, cond, ◌||◌, ℕ, suc, ◌+◌, ◌*◌, ◌%◌, ◌≤◌, ◌<◌, ltb, get_or, set, take}
+use Rattle.std.specs.Prelude.{◌≡◌, Bool, ◌||◌, ℕ, suc, ◌+◌, ◌*◌, ◌%◌, ◌≤◌, ◌<◌, ltb, get_or, set, take}
 use Rattle.std.proofs.Math.Path.{refl, subst}
 use Rattle.std.proofs.Common.{sym, ap, ◌∙◌, add-one, arith, length-set, take-suc, take-suc-set}
 use Rattle.std.proofs.Math.Bool.{true, false}
@@ -99,12 +99,7 @@ module _ (rs : List Record) (i : ℕ) (p : Pairs) (here : i < length rs) (fits :
 -- ---- what is kept of a list
 
 pub kept_few : (n : ℕ) → (pairs_kept n ≤ n) × (pairs_kept n ≤ most_pairs)
-unfolding pairs_kept
-kept_few n = by_test (leb most_pairs n) refl
-  where
-    by_test : (b : Bool) → leb most_pairs n ≡ b → (cond b most_pairs n ≤ n) × (cond b most_pairs n ≤ most_pairs)
-    by_test true e = (leb-true most_pairs n e, omega arith)
-    by_test false e = (omega arith, omega (arith, leb-false most_pairs n e))
+kept_few n = (omega arith, omega arith)
 
 or_true : (a : Bool) → (a || true) ≡ true
 or_true true = refl
@@ -139,19 +134,21 @@ module _ (done coming : List ℕ) (place : Place) (sets book : List ℕ) (m : In
 
   -- the records that are kept are refused by 1, or run, as the whole list
   pub said_kept : (rs : List Record) → SaidOf (record_words (take (pairs_kept (length rs)) rs)) → SaidOf (record_words rs)
-  unfolding pairs_kept
   said_kept rs = by_test (leb most_pairs (length rs)) refl
     where
-      by_test : (b : Bool) → leb most_pairs (length rs) ≡ b → SaidOf (record_words (take (cond b most_pairs (length rs)) rs))
-          → SaidOf (record_words rs)
+      by_test : (b : Bool) → leb most_pairs (length rs) ≡ b → SaidOf (record_words (take (pairs_kept (length rs)) rs)) → SaidOf (record_words rs)
       by_test true e said =
           let h : most_pairs ≤ length rs = leb-true most_pairs (length rs) e in
+          let k : pairs_kept (length rs) ≡ most_pairs = omega arith in
           refused_same _ _ _ _
-          (many_refused (handed (record_words (take most_pairs rs))) allowance depth
-          (omega (arith, words-length (take most_pairs rs), length-take-le most_pairs rs h)))
+          (many_refused (handed (record_words (take (pairs_kept (length rs)) rs))) allowance depth
+          (omega (arith, words-length (take (pairs_kept (length rs)) rs), length-take-le (pairs_kept (length rs)) rs (kept_few (length rs)).0)))
           (many_refused (handed (record_words rs)) allowance depth (omega (arith, words-length rs)))
           said
-      by_test false e said = subst (λ (l : List Record). SaidOf (record_words l)) (take-length rs) said
+      by_test false e said =
+          let l = leb-false most_pairs (length rs) e in
+          let k : pairs_kept (length rs) ≡ length rs = omega arith in
+          subst (λ (l : List Record). SaidOf (record_words l)) (ap (λ (n : ℕ). take n rs) k ∙ take-length rs) said
 
   -- the run on the array's words is the run on the records
   pub said_filled : (rs : List Record) (p : Pairs) → Filled (take (pairs_kept (length rs)) rs) p → SaidOf (take (2 * p.n) p.words)

@@ -1,17 +1,17 @@
 // Records as structs: a run over a lent slice of them answers as the run on the same pairs in words.
 #![tactic(auto)]
 
-ghost use Rattle.std.specs.Prelude.{◌≡◌, ◌*◌, ◌<◌, ◌≤◌, length, get_or, take};
+ghost use Rattle.std.specs.Prelude.{◌≡◌, ◌*◌, ◌<◌, ◌≤◌, length, take};
 ghost use Rattle.run_calls.specs.Calls.{Said};
 ghost use Rattle.run_record_structs.specs.Records.{record_words};
-ghost use Rattle.run_record_structs.specs.Array.{most_pairs, pairs_kept, no_record, no_pairs, with_pair, Filled};
+ghost use Rattle.run_record_structs.specs.Array.{most_pairs, pairs_kept, with_pair, Filled};
 
 use matching::InputMatch;
 use run::Given;
 use run_calls::RunAnswer;
 
 // Which position of the match, and which lookup of the book.
-#[derive(Clone, Copy)]
+#[derive(Clone, Copy, Debug, PartialEq, Eq)]
 pub struct Record {
     pub sequence: u16,
     pub lookup: u16,
@@ -45,47 +45,8 @@ pub fn run(
       given = given;
     }) allowance depth done.new coming.new result }
 {
-    let pairs = pairs_of(records);
-    run_pairs(
-        done, coming, d, idx, sets, book, pairs, matched, given, allowance, depth,
-    )
-}
-
-// The first records as pairs of words, and how many there are.
-#[derive(Clone, Copy)]
-struct Pairs {
-    n: usize,
-    words: [u16; 2 * KEPT],
-}
-
-// What is refused is `run_calls::run`'s to say: 17 records are 34 words, which are too many there.
-fn run_pairs(
-    done: &mut [u32],
-    coming: &mut [u32],
-    d: usize,
-    idx: usize,
-    sets: &[u16],
-    book: &[u16],
-    pairs: Pairs,
-    matched: InputMatch,
-    given: Given,
-    allowance: u32,
-    depth: usize,
-) -> RunAnswer
-    requires { (pairs.n ≤ most_pairs) × (length pairs.words ≡ 2 * most_pairs) }
-    ensures { Said (record {
-      done = done.old;
-      coming = coming.old;
-      place = record { d = d; idx = idx };
-      sets = sets.now;
-      book = book.now;
-      records = take (2 * pairs.n) pairs.words;
-      match = matched;
-      given = given;
-    }) allowance depth done.new coming.new result }
-{
-    let words = pairs.words;
-    let n = pairs.n;
+    let pairs = Pairs::of(records);
+    // What is refused is `run_calls::run`'s to say: 17 records are 34 words, which are too many there.
     run_calls::run(
         done,
         coming,
@@ -93,7 +54,7 @@ fn run_pairs(
         idx,
         sets,
         book,
-        &words[..2 * n],
+        pairs.as_words(),
         matched,
         given,
         allowance,
@@ -101,56 +62,44 @@ fn run_pairs(
     )
 }
 
-// As many records as are kept, read one by one.
-fn pairs_of(records: &[Record]) -> Pairs
-    ensures { Filled (take (pairs_kept (length records.now)) records.now) result }
-{
-    let n = at_most(records.len());
-    let mut p = none_yet();
-    let mut i: usize = 0;
-    while i < n {
-        let r = record_at(records, i);
-        p = add(p, r);
-        i += 1;
+// The first records as pairs of words, and how many there are. An array with its length beside it, since the library has no heap.
+#[derive(Clone, Copy, Debug, PartialEq, Eq)]
+struct Pairs {
+    n: usize,
+    words: [u16; 2 * KEPT],
+}
+
+impl Pairs {
+    // As many records as are kept, in their order.
+    fn of(records: &[Record]) -> Pairs
+        ensures { Filled (take (pairs_kept (length records.now)) records.now) result }
+    {
+        let kept = &records[..records.len().min(KEPT)];
+        let mut pairs = Pairs {
+            n: 0,
+            words: [0; 2 * KEPT],
+        };
+        for r in kept {
+            pairs.push(*r);
+        }
+        pairs
     }
-    p
-}
 
-// How many of n records are kept.
-fn at_most(n: usize) -> usize
-    ensures { result ≡ pairs_kept n }
-{
-    if KEPT <= n {
-        return KEPT;
+    // One more pair.
+    fn push(&mut self, r: Record)
+        requires { self.old.n < most_pairs }
+        ensures { self.new ≡ with_pair self.old r }
+    {
+        self.words[2 * self.n] = r.sequence;
+        self.words[2 * self.n + 1] = r.lookup;
+        self.n += 1;
     }
-    n
-}
 
-fn none_yet() -> Pairs
-    ensures { result ≡ no_pairs }
-{
-    Pairs {
-        n: 0,
-        words: [0u16; 2 * KEPT],
+    // The words of the pairs.
+    fn as_words(&self) -> &[u16]
+        requires { self.now.n ≤ most_pairs }
+        ensures { result.now ≡ take (2 * self.now.n) self.now.words }
+    {
+        &self.words[..2 * self.n]
     }
-}
-
-// The thin reader: the record at a place.
-fn record_at(records: &[Record], i: usize) -> Record
-    requires { i < length records.now }
-    ensures { result ≡ get_or records.now i no_record }
-{
-    records[i]
-}
-
-// One more pair.
-fn add(p: Pairs, r: Record) -> Pairs
-    requires { p.n < most_pairs }
-    ensures { result ≡ with_pair p r }
-{
-    let n = p.n;
-    let mut words = p.words;
-    words[2 * n] = r.sequence;
-    words[2 * n + 1] = r.lookup;
-    Pairs { n: n + 1, words }
 }
