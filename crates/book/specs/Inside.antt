@@ -1,7 +1,7 @@
 -- The parts that the code finds lie within the words and keep the limits, so that the words up to their end show the same.
 use Rattle.std.specs.Prelude.{◌≡◌, refl, Bool, true, false, cond, List, [], ◌∷◌, ℕ, zero, suc, ◌+◌, ◌-◌, ◌*◌, ◌≤◌, eqb, leb, ltb, length, take, drop}
 use Rattle.std.specs.Prelude.{Option, Some, None, IfSome}
-use Rattle.std.proofs.Common.{sym, ap, ◌∙◌, mul-le-mul_left, zero-add, suc-add, arith, ltb-true, leb-true, take-take}
+use Rattle.std.proofs.Common.{sym, ap, ◌∙◌, mul-le-mul_left, zero-add, suc-add, arith, ltb-true, leb-true, take-take, length-take, length-drop}
 use Rattle.std.proofs.Math.ListN.{get_or}
 use Rattle.std.proofs.Math.Seq.{take-nil}
 use Rattle.book.specs.declared.Part.{Part}
@@ -118,6 +118,10 @@ good_longer k n (Some (Entry.Chain props c)) h g = record {
   records = longer k n (2 * most_records) c.records h g.records;
 }
 good_longer k n None h g = tt
+
+-- a part has no more words than it may
+pub part_few : (ws : List ℕ) (n most : ℕ) (p : Part) → PartInside n most p → length (part_of ws p) ≤ most
+part_few ws n most p i = simp (length-take, length-drop) (omega (arith, i.few))
 
 -- ---- the words up to the end of a part show the part
 

@@ -16,7 +16,7 @@ use Rattle.matching.specs.declared.InputMatch.{InputMatch}
 use Rattle.matching.specs.Take.{Way, ahead, Outcome, taken, lost, unlike, reached}
 use Rattle.matching.specs.Matchers.{input_on, input_by, ahead_on, back_on}
 use Rattle.matching.specs.Answers.{slotted, matched_at, input_told, context_told, match_end}
-use Rattle.matching.specs.Cases.{is_matched, is_found}
+use Rattle.std.specs.Prelude.{is_ok}
 use Rattle.matching.specs.Demand2Laws.{demand_2}
 use Rattle.matching.specs.Rising.{as_many, end_inside}
 use Rattle.matching.specs.Shift.{raised_all, raised_by, reached_shift, input_shift, ahead_shift}
@@ -26,7 +26,7 @@ use Rattle.run.specs.Chain.{is_taken, itself, input_at, ahead_at, back_at, end_a
 
 -- ---- answers, by their cases
 
-pub found_taken : (way : Way) (p : ℕ) (o : Outcome) → is_found (context_told way p o) ≡ is_taken o
+pub found_taken : (way : Way) (p : ℕ) (o : Outcome) → is_ok (context_told way p o) ≡ is_taken o
 found_taken way p (taken qs) = refl
 found_taken way p (lost extent) = refl
 found_taken way p unlike = refl
@@ -118,13 +118,13 @@ module _ (done coming : List ℕ) (p : Place) (f : Fits done coming p) (q : Term
           many = refl;
         }
 
-    shown_by : (o : Outcome) → from₀ values ≡ o → is_matched (input_told C p.idx (raised_by p.idx o)).answer ≡ true
+    shown_by : (o : Outcome) → from₀ values ≡ o → is_ok (input_told C p.idx (raised_by p.idx o)).answer ≡ true
         → Shown values (input_told C p.idx (raised_by p.idx o))
     shown_by (taken qs) e h = taken_shown qs e
     shown_by (lost extent) e h = absurd (true_false (sym h))
     shown_by unlike e h = absurd (true_false (sym h))
 
-    pub input_shown : (m : InputMatch) → m ≡ input_told C p.idx (input_on q sets itself D C p.idx values) → is_matched m.answer ≡ true
+    pub input_shown : (m : InputMatch) → m ≡ input_told C p.idx (input_on q sets itself D C p.idx values) → is_ok m.answer ≡ true
         → Shown values m
     input_shown m e h =
         let r : m ≡ input_told C p.idx (raised_by p.idx (from₀ values)) = e ∙ ap (input_told C p.idx) (row_input values) in
@@ -132,13 +132,13 @@ module _ (done coming : List ℕ) (p : Place) (f : Fits done coming p) (q : Term
 
   -- what lost in the row doesn't match in the text
   module _ (k : Chain Asked) where
-    lost_by : (o : Outcome) → is_matched (input_told C p.idx (raised_by p.idx o)).answer ≡ false
+    lost_by : (o : Outcome) → is_ok (input_told C p.idx (raised_by p.idx o)).answer ≡ false
         → Unmatched ≡ after_input q sets (text_of done coming p) k (raised_by p.d o)
     lost_by (taken qs) h = absurd (true_false h)
     lost_by (lost extent) h = refl
     lost_by unlike h = refl
 
-    pub input_lost : (m : InputMatch) → m ≡ input_told C p.idx (input_on q sets itself D C p.idx k.input) → is_matched m.answer ≡ false
+    pub input_lost : (m : InputMatch) → m ≡ input_told C p.idx (input_on q sets itself D C p.idx k.input) → is_ok m.answer ≡ false
         → Unmatched ≡ after_input q sets (text_of done coming p) k (input_at q sets (text_of done coming p) k.input)
     input_lost m e h =
         let r : m ≡ input_told C p.idx (raised_by p.idx (from₀ k.input)) = e ∙ ap (input_told C p.idx) (row_input k.input) in

@@ -13,5 +13,5 @@ pub returns : goal.returns
 returns c =
     let a = c.args in
     ahead_told a.q a.sets.now (value_by a.test a.lists.now) (glyphs_of a.coming.now) a.values.now c.widen-wide.result
-    c.widen-wide.ensures a.start a.syllable c.lookahead.result c.is_found.result c.lookahead.ensures
-    c.is_found.ensures
+    c.widen-wide.ensures a.start a.syllable c.lookahead.result c.is_ok.result c.lookahead.ensures
+    c.is_ok.ensures.value

@@ -12,5 +12,5 @@ pub returns : goal.returns
 returns c =
     let a = c.args in
     back_told a.q a.sets.now (value_by a.test a.lists.now) (glyphs_of a.before.now) a.values.now c.widen-wide.result
-    c.widen-wide.ensures a.syllable c.backtrack.result c.is_found.result c.backtrack.ensures
-    c.is_found.ensures
+    c.widen-wide.ensures a.syllable c.backtrack.result c.is_ok.result c.backtrack.ensures
+    c.is_ok.ensures.value

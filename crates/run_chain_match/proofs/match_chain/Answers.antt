@@ -1,5 +1,5 @@
 -- The tests in 01's order are the definition's; what was asked of the rows is what the text shows. Assumes nothing.
-use Rattle.std.proofs.Common.{List, ap, arith, length, sym, take, ℕ, ◌∙◌, ◌≡◌, ◌≤◌, Bool, true}
+use Rattle.std.proofs.Common.{List, ap, arith, length, sym, take, ℕ, ◌∙◌, ◌≡◌, ◌≤◌, Bool}
 use lib.ListN.{length-map}
 use Rattle.glyph.specs.declared.Glyph.{Glyph}
 use Rattle.glyph.specs.Glyph.{glyphs_of}
@@ -8,7 +8,11 @@ use Rattle.verdict.specs.Verdict.{Asked, value_by}
 use Rattle.matching.specs.Matchers.{input_on, ahead_on, back_on}
 use Rattle.matching.specs.Answers.{input_told, match_end}
 use Rattle.book.specs.Book.{Chain}
-use Rattle.matching.specs.Cases.{is_matched}
+use Rattle.book.specs.Places.{part_of}
+use Rattle.book.specs.Inside.{part_few}
+use Rattle.std.specs.Prelude.{Result, Ok, is_ok}
+use Rattle.matching.specs.declared.NoMatch.{NoMatch}
+use Rattle.matching.specs.declared.Success.{Success}
 use Rattle.run.specs.Run.{moved_level}
 use Rattle.run.specs.Chain.{is_taken, itself}
 use Rattle.run_positions.specs.Slots.{shown}
@@ -18,10 +22,13 @@ use Rattle.run_chain_match.specs.Laws.{aim_other, aim_lost, aim_behind, aim_ahea
 use Rattle.run_chain_match.proofs.match_chain.Goals as goal
 use Rattle.run_chain_match.proofs.match_chain.Goals.{After-match_values-m}
 
+ended : {a : Result Success NoMatch} {s : Success} → a ≡ Ok s → s.end ≡ match_end a
+ended e = sym (ap match_end e)
+
 -- what input matching answered, of the first d glyphs of `done`
 module _ (c : After-match_values-m) where
   abbrev k : Chain Asked
-  k = let a = c.args in handed_chain a.tests a.lists.now a.first a.back.now a.input.now a.onward.now a.records
+  k = let a = c.args in handed_chain a.tests a.book.now a.chain
 
   m_is :
       let a = c.args in
@@ -33,12 +40,12 @@ module _ (c : After-match_values-m) where
       ∙ ap (λ (D : List Glyph). input_told (glyphs_of a.coming.now) a.p.idx
       (input_on a.q a.sets.now itself D (glyphs_of a.coming.now) a.p.idx k.input)) c.first-before.ensures
 
-  shows : (b : Bool) → b ≡ is_matched c.match_values-m.result.answer → b ≡ true →
+  shows : (s : Success) → c.match_values-m.result.answer ≡ Ok s →
       let a = c.args in
       Shown a.done.now a.coming.now a.p c.requires.0 a.q a.sets.now k.input c.match_values-m.result
-  shows b said e =
+  shows s e =
       let a = c.args in
-      input_shown a.done.now a.coming.now a.p c.requires.0 a.q a.sets.now c.requires.1 k.input c.match_values-m.result m_is (sym said ∙ e)
+      input_shown a.done.now a.coming.now a.p c.requires.0 a.q a.sets.now c.requires.1 k.input c.match_values-m.result m_is (ap is_ok e)
 
   asked_ahead : (end : ℕ) (b : Bool) → end ≡ match_end c.match_values-m.result.answer →
       let a = c.args in
@@ -66,9 +73,7 @@ pub returns-then-not-is_value : goal.returns-then-not-is_value
 returns-then-not-is_value c =
     let a = c.args in
     let g = c.read-g in
-    c.no_aim.ensures
-    ∙ aim_other a.done.now a.coming.now a.p c.requires.0 a.q a.sets.now (handed_chain a.tests a.lists.now a.first a.back.now a.input.now
-    a.onward.now a.records) a.records g.result g.ensures
+    aim_other a.done.now a.coming.now a.p c.requires.0 a.q a.sets.now (handed_chain a.tests a.book.now a.chain) a.chain.records g.result g.ensures
     (sym c.is_value.ensures ∙ c.if-not-is_value.true)
 
 pub first-before-requires : goal.first-before-requires
@@ -79,22 +84,21 @@ first-before-requires c =
 pub match_values-m-requires : goal.match_values-m-requires
 match_values-m-requires c =
     let z = sizes c.args.done.now c.args.coming.now c.args.p c.requires.0 in
-    (omega (arith, c.requires.1), omega arith, c.requires.3)
+    (omega (arith, c.requires.1), omega arith, part_few c.args.book.now _ _ _ c.requires.2.input)
 
-pub returns-then-not-is_matched : goal.returns-then-not-is_matched
-returns-then-not-is_matched c =
-    let r = (goal.at.returns-then-not-is_matched c).After-match_values-m in
+pub returns-in_default : goal.returns-in_default
+returns-in_default c =
+    let r = (goal.at.returns-in_default c).After-match_values-m in
     let a = c.args in
     let g = c.read-g in
     let said = sym c.is_value.ensures ∙ c.if-not-is_value.false in
-    c.no_aim-then-not-is_matched.ensures
-    ∙ aim_lost a.done.now a.coming.now a.p c.requires.0 a.q a.sets.now (k r) a.records g.result g.ensures said
-    c.match_values-m.result (m_is r) (sym c.is_matched.ensures ∙ c.if-not-is_matched.true)
+    aim_lost a.done.now a.coming.now a.p c.requires.0 a.q a.sets.now (k r) a.chain.records g.result g.ensures said
+    c.match_values-m.result (m_is r) (ap is_ok c.in_default.is)
 
 pub is_ahead-requires : goal.is_ahead-requires
 is_ahead-requires c =
-    let h = shows (goal.at.is_ahead-requires c).After-match_values-m _ c.is_matched.ensures c.if-not-is_matched.false in
-    (omega (arith, h.end, h.inside, c.end_of-end.ensures), c.requires.4)
+    let h = shows (goal.at.is_ahead-requires c).After-match_values-m c.in-Ok.success c.in-Ok.is in
+    (omega (arith, h.end, h.inside, ended c.in-Ok.is), part_few c.args.book.now _ _ _ c.requires.2.lookahead)
 
 pub returns-then-not-is_ahead : goal.returns-then-not-is_ahead
 returns-then-not-is_ahead c =
@@ -102,10 +106,9 @@ returns-then-not-is_ahead c =
     let a = c.args in
     let g = c.read-g in
     let said = sym c.is_value.ensures ∙ c.if-not-is_value.false in
-    c.no_aim-then-not-is_ahead.ensures
-    ∙ aim_behind a.done.now a.coming.now a.p c.requires.0 a.q a.sets.now (k r) a.records g.result g.ensures said
-    c.match_values-m.result (m_is r) (shows r _ c.is_matched.ensures c.if-not-is_matched.false)
-    (asked_ahead r _ _ c.end_of-end.ensures c.is_ahead.ensures ∙ c.if-not-is_ahead.true)
+    aim_behind a.done.now a.coming.now a.p c.requires.0 a.q a.sets.now (k r) a.chain.records g.result g.ensures said
+    c.match_values-m.result (m_is r) (shows r c.in-Ok.success c.in-Ok.is)
+    (asked_ahead r _ _ (ended c.in-Ok.is) c.is_ahead.ensures ∙ c.if-not-is_ahead.true)
 
 pub returns-then-not-is_behind : goal.returns-then-not-is_behind
 returns-then-not-is_behind c =
@@ -113,10 +116,9 @@ returns-then-not-is_behind c =
     let a = c.args in
     let g = c.read-g in
     let said = sym c.is_value.ensures ∙ c.if-not-is_value.false in
-    c.no_aim-then-not-is_behind.ensures
-    ∙ aim_ahead a.done.now a.coming.now a.p c.requires.0 a.q a.sets.now (k r) a.records g.result g.ensures said
-    c.match_values-m.result (m_is r) (shows r _ c.is_matched.ensures c.if-not-is_matched.false)
-    (asked_ahead r _ _ c.end_of-end.ensures c.is_ahead.ensures ∙ c.if-not-is_ahead.false)
+    aim_ahead a.done.now a.coming.now a.p c.requires.0 a.q a.sets.now (k r) a.chain.records g.result g.ensures said
+    c.match_values-m.result (m_is r) (shows r c.in-Ok.success c.in-Ok.is)
+    (asked_ahead r _ _ (ended c.in-Ok.is) c.is_ahead.ensures ∙ c.if-not-is_ahead.false)
     (asked_back r _ c.is_behind.ensures ∙ c.if-not-is_behind.true)
 
 pub open-level-requires : goal.open-level-requires
@@ -125,10 +127,12 @@ open-level-requires c =
     let a = c.args in
     let g = c.read-g in
     let said = sym c.is_value.ensures ∙ c.if-not-is_value.false in
-    let few : length (k r).input ≤ 63 = omega (arith, c.requires.3, length-map a.input.now (value_by a.tests.input a.lists.now)) in
-    rw c.end_of-end.ensures
-    (open_asks a.done.now a.coming.now a.p c.requires.0 a.q a.sets.now (k r) a.records g.result g.ensures said
-    c.match_values-m.result (m_is r) (shows r _ c.is_matched.ensures c.if-not-is_matched.false) few)
+    let few : length (k r).input ≤ 63 =
+    omega (arith, part_few a.book.now _ _ _ c.requires.2.input, length-map (part_of a.book.now a.chain.input) (value_by a.tests.input a.book.now)) in
+    let asks =
+    open_asks a.done.now a.coming.now a.p c.requires.0 a.q a.sets.now (k r) a.chain.records g.result g.ensures said
+    c.match_values-m.result (m_is r) (shows r c.in-Ok.success c.in-Ok.is) few in
+    rw (ended c.in-Ok.is) (asks.1, asks.2, asks.3, asks.4)
 
 pub returns : goal.returns
 returns c =
@@ -138,9 +142,9 @@ returns c =
     let m = c.match_values-m.result in
     let said = sym c.is_value.ensures ∙ c.if-not-is_value.false in
     let opened = c.open-level.ensures ∙ ap (λ (n : ℕ). shown (moved_level a.p.idx a.p.d (take m.count m.positions) n))
-    c.end_of-end.ensures in
-    aim_hit a.done.now a.coming.now a.p c.requires.0 a.q a.sets.now (k r) a.records g.result g.ensures said
-    m (m_is r) (shows r _ c.is_matched.ensures c.if-not-is_matched.false)
-    (asked_ahead r _ _ c.end_of-end.ensures c.is_ahead.ensures ∙ c.if-not-is_ahead.false)
+    (ended c.in-Ok.is) in
+    aim_hit a.done.now a.coming.now a.p c.requires.0 a.q a.sets.now (k r) a.chain.records g.result g.ensures said
+    m (m_is r) (shows r c.in-Ok.success c.in-Ok.is)
+    (asked_ahead r _ _ (ended c.in-Ok.is) c.is_ahead.ensures ∙ c.if-not-is_ahead.false)
     (asked_back r _ c.is_behind.ensures ∙ c.if-not-is_behind.false)
     c.open-level.result opened
