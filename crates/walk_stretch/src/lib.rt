@@ -19,6 +19,27 @@ const BLOCK: usize = 8;
 // long ones.
 const LONG: usize = 16;
 
+// What is left of a row to cross: forward the last places before len, backward the row's first ones.
+#[derive(Clone, Copy, Debug, PartialEq, Eq)]
+struct Stretch<'a> {
+    row: &'a [u32],
+    len: usize,
+    left: usize,
+    back: bool,
+    ghost left_fits: { left ≤ len },
+    ghost len_fits: { len ≤ length (glyphs_of row.now) },
+}
+
+impl<'a> Stretch<'a> {
+    // The lowest of the next n places, once only `left` are left.
+    fn lowest(self, left: usize, n: usize) -> usize
+        requires { (n ≤ left) × (left ≤ self.len) }
+        ensures { result ≡ lowest_of self.entry.back self.entry.len left n }
+    {
+        if self.back { left - n } else { self.len - left }
+    }
+}
+
 // The place up to which a forward walk passes over every glyph, as far as is seen; `next` is the next place to test. What the crossing is handed, a
 // part of the row and the sets, is made where it is called: the short walks, which don't call, then keep their own slices out of memory.
 pub fn cross_ahead(row: &[u32], len: usize, next: usize, asked: u32, sets: &[u16]) -> usize
@@ -103,20 +124,27 @@ fn may_pass_marks(asked: u32) -> bool
 }
 
 // How many of the places left to test are left after those that are seen to be skip Yes. Forward they are the last places before len, backward the
-// first ones of the row. Both directions call it, so the compiler leaves it a function of its own, out of the short walks' way.
+// first ones of the row. Both directions call it, so the compiler leaves it a function of its own, out of the short walks' way. It takes the stretch in
+// parts, for speed: as a struct it would be handed over in memory.
 fn left_after(row: &[u32], len: usize, left: usize, back: bool, asked: u32, sets: &[u16]) -> usize
     requires { (2 * block ≤ left) × (left ≤ len) × (len ≤ length (glyphs_of row.now)) }
     ensures { (result ≤ left) × Crossed (yes_at asked sets.now (glyphs_of row.now)) back len left result }
 {
+    let s = Stretch {
+        row,
+        len,
+        left,
+        back,
+    };
     // a set is named, and marks aren't ignored as a class
     if asked / 8 % 4 == 2 {
-        return past_set(row, len, left, back, asked / 65536, sets);
+        return past_set(s, asked / 65536, sets);
     }
-    let class = class_asked(asked);
-    past_class(row, len, left, back, asked, class)
+    past_class(s, asked, class_asked(asked))
 }
 
 // The attachment class that the lookup goes by, 0 if it goes by none.
+#[tactic(auto, using(std::proofs::lemmas::Bool::Decides::nat_tests))]
 fn class_asked(asked: u32) -> u16
     ensures { (result ≡ class_by asked) × (result < 256) }
 {
@@ -127,36 +155,32 @@ fn class_asked(asked: u32) -> u16
     }
 }
 
-// The lowest of the next n places.
-fn lowest(len: usize, left: usize, back: bool, n: usize) -> usize
-    requires { (n ≤ left) × (left ≤ len) }
-    ensures { result ≡ lowest_of back len left n }
-{
-    if back { left - n } else { len - left }
-}
-
 // ---- a block at a time, by classes
 
 // With no class asked nothing is flipped: the compiler makes a loop of its own of that, in which a glyph takes fewer instructions.
-fn past_class(row: &[u32], len: usize, left: usize, back: bool, asked: u32, class: u16) -> usize
-    requires { (left ≤ len) × (len ≤ length (glyphs_of row.now)) × (class < 256) }
-    ensures { (result ≤ left) × Crossed (shown_at asked class (glyphs_of row.now)) back len left result }
+fn past_class(s: Stretch, asked: u32, class: u16) -> usize
+    requires { class < 256 }
+    ensures { (result ≤ s.entry.left)
+        × Crossed (shown_at asked class (glyphs_of s.entry.row.now)) s.entry.back s.entry.len s.entry.left result }
 {
     if class == 0 {
-        return past_blocks(row, len, left, back, asked, 0);
+        return past_blocks(s, asked, 0);
     }
-    past_blocks(row, len, left, back, asked, class)
+    past_blocks(s, asked, class)
 }
 
-// How many places are left after the blocks that one look each tells to be skip Yes.
-fn past_blocks(row: &[u32], len: usize, left: usize, back: bool, asked: u32, class: u16) -> usize
-    requires { (left ≤ len) × (len ≤ length (glyphs_of row.now)) × (class < 256) }
-    ensures { (result ≤ left) × Crossed (shown_at asked class (glyphs_of row.now)) back len left result }
+// How many places are left after the blocks that one look each tells to be skip Yes. It stands where it is called, so that `past_class` has two loops.
+// They are `while`s: what is left falls by a block, and a range that steps down takes a measure and a bound more.
+#[inline(always)]
+fn past_blocks(s: Stretch, asked: u32, class: u16) -> usize
+    requires { class < 256 }
+    ensures { (result ≤ s.entry.left)
+        × Crossed (shown_at asked class (glyphs_of s.entry.row.now)) s.entry.back s.entry.len s.entry.left result }
 {
-    let mut rest = left;
+    let mut rest = s.left;
     while BLOCK <= rest {
-        let p = lowest(len, rest, back, BLOCK);
-        if !is_shown(asked, class, shared(row, p, class)) {
+        let p = s.lowest(rest, BLOCK);
+        if !is_shown(asked, class, shared(s.row, p, class)) {
             return rest;
         }
         rest -= BLOCK;
@@ -165,11 +189,12 @@ fn past_blocks(row: &[u32], len: usize, left: usize, back: bool, asked: u32, cla
 }
 
 // Whether props in which the class asked was flipped tell of a glyph that it is skip Yes.
+#[tactic(auto, unfolding(crate::specs::Blocks::props_show))]
 fn is_shown(asked: u32, class: u16, flipped: u16) -> bool
     ensures { result ≡ props_show asked class flipped }
 {
-    let x = flipped as u32;
-    verdict_skip::is_ignored_class(asked, x) | ((class != 0) & (x / 8 % 2 == 1) & (256 <= x))
+    verdict_skip::is_ignored_class(asked, flipped as u32)
+        | ((class != 0) & is_mark(flipped) & (256 <= flipped))
 }
 
 // The bits that a block's props have in common, once those of `class` are flipped.
@@ -179,10 +204,8 @@ fn shared(row: &[u32], p: usize, class: u16) -> u16
 {
     let other = class * 256;
     let mut all = 65535;
-    let mut k = 0;
-    while k < BLOCK {
-        all = all & (glyph::read(row, p + k).props ^ other);
-        k += 1;
+    for k in 0..BLOCK {
+        all &= glyph::read(row, p + k).props ^ other;
     }
     all
 }
@@ -191,55 +214,49 @@ fn shared(row: &[u32], p: usize, class: u16) -> u16
 
 // Only where the first two blocks are all marks. A digest is made once the marks of one were sought pair by pair: it costs as much as some eight
 // searches, and a mark of the set ends the crossing.
-fn past_set(row: &[u32], len: usize, left: usize, back: bool, set: u32, sets: &[u16]) -> usize
-    requires { (2 * block ≤ left) × (left ≤ len) × (len ≤ length (glyphs_of row.now)) }
-    ensures { (result ≤ left) × Crossed (outside_at set sets.now (glyphs_of row.now)) back len left result }
+fn past_set(s: Stretch, set: u32, sets: &[u16]) -> usize
+    requires { 2 * block ≤ s.left }
+    ensures { (result ≤ s.entry.left)
+        × Crossed (outside_at set sets.now (glyphs_of s.entry.row.now)) s.entry.back s.entry.len s.entry.left result }
 {
-    let least = left - BLOCK;
-    let marks = shared(row, lowest(len, left, back, BLOCK), 0)
-        & shared(row, lowest(len, least, back, BLOCK), 0);
-    if marks / 8 % 2 != 1 {
-        return left;
+    let least = s.left - BLOCK;
+    let marks = shared(s.row, s.lowest(s.left, BLOCK), 0)
+        & shared(s.row, s.lowest(least, BLOCK), 0);
+    if !is_mark(marks) {
+        return s.left;
     }
-    let tried = past_outside(row, len, left, least, back, set, sets, SetDigest::full());
+    let tried = past_outside(s, least, set, sets, SetDigest::full());
     if least < tried {
         return tried;
     }
-    past_outside(row, len, tried, 0, back, set, sets, digest_of(sets, set))
+    let mut rest = s;
+    rest.left = tried;
+    past_outside(rest, 0, set, sets, digest_of(sets, set))
 }
 
 // How many places are left after the marks outside the set; it goes no further than `least`.
-fn past_outside(
-    row: &[u32],
-    len: usize,
-    left: usize,
-    least: usize,
-    back: bool,
-    set: u32,
-    sets: &[u16],
-    d: SetDigest,
-) -> usize
-    requires { (left ≤ len) × (len ≤ length (glyphs_of row.now)) × Admits d sets.now set }
-    ensures { (result ≤ left) × Crossed (outside_at set sets.now (glyphs_of row.now)) back len left result }
+fn past_outside(s: Stretch, least: usize, set: u32, sets: &[u16], d: SetDigest) -> usize
+    requires { (least ≤ s.left) × Admits d sets.now set }
+    ensures { (result ≤ s.entry.left)
+        × Crossed (outside_at set sets.now (glyphs_of s.entry.row.now)) s.entry.back s.entry.len s.entry.left result }
 {
-    let mut rest = left;
-    while least < rest {
-        let p = lowest(len, rest, back, 1);
-        if !is_outside(row, p, set, sets, d) {
-            return rest;
+    for rest in (least..s.left).rev() {
+        let p = s.lowest(rest + 1, 1);
+        if !is_outside(s.row, p, set, sets, d) {
+            return rest + 1;
         }
-        rest -= 1;
     }
-    rest
+    least
 }
 
 // Whether a glyph is a mark outside the set, where a digest admits each glyph of the set.
+#[tactic(auto, using(crate::specs::Outside::not_admitted, std::proofs::lemmas::Bool::Decides::nat_tests))]
 fn is_outside(row: &[u32], p: usize, set: u32, sets: &[u16], d: SetDigest) -> bool
     requires { (p < length (glyphs_of row.now)) × Admits d sets.now set }
     ensures { result ≡ outside_at set sets.now (glyphs_of row.now) p }
 {
     let g = glyph::read(row, p);
-    if g.props / 8 % 2 != 1 {
+    if !is_mark(g.props) {
         return false;
     }
     if !d.may_have(g.id) {
@@ -252,12 +269,9 @@ fn is_outside(row: &[u32], p: usize, set: u32, sets: &[u16], d: SetDigest) -> bo
 fn digest_of(sets: &[u16], set: u32) -> SetDigest
     ensures { Admits result sets.now set }
 {
-    let pairs = sets.len() / 2;
     let mut d = SetDigest::new();
-    let mut k = 0;
-    while k < pairs {
+    for k in 0..sets.len() / 2 {
         d = with_pair(d, sets, k, set);
-        k += 1;
     }
     d
 }

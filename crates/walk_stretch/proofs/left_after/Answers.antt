@@ -15,6 +15,6 @@ returns-then-asked-eq2 c = let a = c.args in
 pub returns : goal.returns
 returns c = let a = c.args in
     let gs = glyphs_of a.row.now in
-    let class = c.class_asked-class.ensures.0 in
+    let class = c.class_asked.ensures.0 in
     let shown = c.past_class.ensures in
     (shown.0, λ i l g. shown_yes a.asked a.sets.now gs i (sym (ap (λ (x : ℕ). shown_at a.asked x gs i) class) ∙ shown.1 i l g))

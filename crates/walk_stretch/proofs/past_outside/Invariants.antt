@@ -5,7 +5,4 @@ use Rattle.walk_stretch.specs.Outside.{outside_at}
 use Rattle.walk_stretch.proofs.past_outside.Given as goal
 
 abbrev pub invariant-loop-rest : goal.invariant-loop-rest
-invariant-loop-rest l = (l.rest ≤ l.left) × Crossed (outside_at l.set l.sets (glyphs_of l.row)) l.back l.len l.left l.rest
-
-abbrev pub decreases-loop-rest : goal.decreases-loop-rest
-decreases-loop-rest l = l.rest
+invariant-loop-rest l = (l.least ≤ l.rest) × Crossed (outside_at l.set l.sets (glyphs_of l.s.row.now)) l.s.back l.s.len l.s.left l.rest

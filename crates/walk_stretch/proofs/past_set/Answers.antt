@@ -8,28 +8,28 @@ use Rattle.walk_stretch.proofs.past_set.Goals as goal
 
 pub shared-requires : goal.shared-requires
 shared-requires c = let a = c.args in
-    let w = lowest_within a.back a.len a.left block (omega arith) (omega arith) in
+    let w = lowest_within a.s.back a.s.len a.s.left block (omega arith) (omega arith) in
     (omega (arith, c.lowest.ensures), omega arith)
 
 pub shared-requires-2 : goal.shared-requires-2
 shared-requires-2 c = let a = c.args in
-    let w = lowest_within a.back a.len (a.left - block) block (omega arith) (omega arith) in
+    let w = lowest_within a.s.back a.s.len (a.s.left - block) block (omega arith) (omega arith) in
     (omega (arith, c.lowest-2.ensures), omega arith)
 
-pub returns-then-marks-ne1 : goal.returns-then-marks-ne1
-returns-then-marks-ne1 c = let a = c.args in
-    (omega arith, crossed_none (outside_at a.set a.sets.now (glyphs_of a.row.now)) a.back a.len a.left)
+pub returns-then-not-is_mark : goal.returns-then-not-is_mark
+returns-then-not-is_mark c = let a = c.args in
+    (omega arith, crossed_none (outside_at a.set a.sets.now (glyphs_of a.s.row.now)) a.s.back a.s.len a.s.left)
 
 pub past_outside-tried-requires : goal.past_outside-tried-requires
 past_outside-tried-requires c = let a = c.args in
-    (omega arith, omega arith, full_admits c.full.result a.sets.now a.set c.full.ensures)
+    (omega arith, full_admits c.full.result a.sets.now a.set c.full.ensures)
 
 pub returns : goal.returns
 returns c =
     let tried = c.past_outside-tried in
     let rest = c.past_outside in
     let a = c.args in
-    let y = outside_at a.set a.sets.now (glyphs_of a.row.now) in (
+    let y = outside_at a.set a.sets.now (glyphs_of a.s.row.now) in (
       omega (arith, tried.ensures.0, rest.ensures.0),
-      crossed_join y a.back a.len a.left tried.result rest.result tried.ensures.1 rest.ensures.1,
+      crossed_join y a.s.back a.s.len a.s.left tried.result rest.result tried.ensures.1 rest.ensures.1,
     )

@@ -9,7 +9,7 @@ use Rattle.walk_stretch.proofs.shared.Goals as goal
 
 pub loop-k-init : goal.loop-k-init
 loop-k-init c = let a = c.args in
-    (omega arith, common_none (flipped_at a.class (glyphs_of a.row.now)) a.p (a.p + 0) 65535 (omega arith))
+    common_none (flipped_at a.class (glyphs_of a.row.now)) a.p (a.p + 0) 65535 (omega arith)
 
 pub overflow_add-p : goal.overflow_add-p
 overflow_add-p c = let a = c.args in omega (arith, length-glyphs_of a.row.now)
@@ -17,11 +17,9 @@ overflow_add-p c = let a = c.args in omega (arith, length-glyphs_of a.row.now)
 pub loop-k-preserved : goal.loop-k-preserved
 loop-k-preserved c =
     let a = c.args in
-    let l = c.loop-k in (
-      omega arith,
-      common_more (flipped_at a.class (glyphs_of a.row.now)) a.p (a.p + l.k) l.all _ _
-          (ap (λ (g : Glyph). bit_xor g.props (a.class * 256)) c.read.ensures) (omega arith) l.invariant.1,
-    )
+    let l = c.loop-k in
+    common_more (flipped_at a.class (glyphs_of a.row.now)) a.p (a.p + l.k) l.all _ _
+    (ap (λ (g : Glyph). bit_xor g.props (a.class * 256)) c.read.ensures) (omega arith) l.invariant
 
 pub returns : goal.returns
-returns c = λ i l g. c.loop-k.invariant.1 i l (omega arith)
+returns c = λ i l g. c.loop-k.invariant i l (omega arith)

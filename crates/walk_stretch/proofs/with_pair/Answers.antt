@@ -1,16 +1,10 @@
 -- A pair of another set leaves the digest as it is; the glyph of one of the set is added. Assumes nothing.
-use Rattle.std.proofs.Common.{arith, get_or, ◌*◌, ◌+◌}
+use Rattle.std.proofs.Common.{get_or, ◌*◌, ◌+◌}
 use Rattle.walk_stretch.specs.Outside.{add_admits, add_admitted}
 use Rattle.walk_stretch.proofs.with_pair.Goals as goal
 
-pub overflow_cast-sets : goal.overflow_cast-sets
-overflow_cast-sets c = omega (arith, c.shared_slice_known-2-1.given (2 * c.args.k))
-
 pub returns-then-sets-i : goal.returns-then-sets-i
 returns-then-sets-i c = record { keeps = λ g e. e; admits = λ e. absurd (c.if-sets-i.true e) }
-
-pub overflow_cast-sets-2 : goal.overflow_cast-sets-2
-overflow_cast-sets-2 c = omega (arith, c.shared_slice_known-3-1.given (2 * c.args.k + 1))
 
 pub returns : goal.returns
 returns c = let a = c.args in
