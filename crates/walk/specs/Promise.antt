@@ -30,7 +30,8 @@ module _ (row : List ℕ) where
   row_judge m asked syllable sets = judge_at m asked syllable sets (glyphs_of row)
 
   -- forward from a place: the next glyph tested is one later
-  pub record ForwardPromise (len place : ℕ) (m : Matcher) (asked : Asked) (syllable : ℕ) (sets : List ℕ) (answer : Result Walked IllShaped) : Type 0 where
+  pub record ForwardPromise (len place : ℕ) (m : Matcher) (asked : Asked) (syllable : ℕ) (sets : List ℕ)
+      (answer : Result Walked IllShaped) : Type 0 where
     pub refused : (n : ℕ) → (walk_reply answer ≡ replies n []) ↔ RefusedBy n (walk_lines row len place sets)
     pub found_0 : (q : ℕ) → (walk_reply answer ≡ replies 0 (q ∷ []))
         ↔ (Walkable row len place sets × Finds (row_judge m asked syllable sets) len (place + 1) q)
@@ -39,7 +40,8 @@ module _ (row : List ℕ) where
         × (Stops (row_judge m asked syllable sets) len (place + 1) extent ⊎ RunsOut (row_judge m asked syllable sets) len (place + 1) extent))
 
   -- backward: every glyph of the row counts
-  pub record BackwardPromise (place : ℕ) (m : Matcher) (asked : Asked) (syllable : ℕ) (sets : List ℕ) (answer : Result Walked IllShaped) : Type 0 where
+  pub record BackwardPromise (place : ℕ) (m : Matcher) (asked : Asked) (syllable : ℕ) (sets : List ℕ)
+      (answer : Result Walked IllShaped) : Type 0 where
     pub refused : (n : ℕ) → (walk_reply answer ≡ replies n []) ↔ RefusedBy n (walk_lines row (length (glyphs_of row)) place sets)
     pub found_0 : (q : ℕ) → (walk_reply answer ≡ replies 0 (q ∷ []))
         ↔ (Walkable row (length (glyphs_of row)) place sets × FindsBack (row_judge m asked syllable sets) place q)

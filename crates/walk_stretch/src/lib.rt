@@ -124,8 +124,8 @@ fn may_pass_marks(asked: u32) -> bool
 }
 
 // How many of the places left to test are left after those that are seen to be skip Yes. Forward they are the last places before len, backward the
-// first ones of the row. Both directions call it, so the compiler leaves it a function of its own, out of the short walks' way. It takes the stretch in
-// parts, for speed: as a struct it would be handed over in memory.
+// first ones of the row. Both directions call it, so the compiler leaves it a function of its own, out of the short walks' way. It takes the stretch
+// in parts, for speed: as a struct it would be handed over in memory.
 fn left_after(row: &[u32], len: usize, left: usize, back: bool, asked: u32, sets: &[u16]) -> usize
     requires { (2 * block ≤ left) × (left ≤ len) × (len ≤ length (glyphs_of row.now)) }
     ensures { (result ≤ left) × Crossed (yes_at asked sets.now (glyphs_of row.now)) back len left result }
@@ -169,8 +169,8 @@ fn past_class(s: Stretch, asked: u32, class: u16) -> usize
     past_blocks(s, asked, class)
 }
 
-// How many places are left after the blocks that one look each tells to be skip Yes. It stands where it is called, so that `past_class` has two loops.
-// They are `while`s: what is left falls by a block, and a range that steps down takes a measure and a bound more.
+// How many places are left after the blocks that one look each tells to be skip Yes. It stands where it is called, so that `past_class` has two
+// loops. They are `while`s: what is left falls by a block, and a range that steps down takes a measure and a bound more.
 #[inline(always)]
 fn past_blocks(s: Stretch, asked: u32, class: u16) -> usize
     requires { class < 256 }

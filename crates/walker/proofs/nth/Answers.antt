@@ -42,7 +42,8 @@ module _ (c : After-step) where
 
 pub returns-in_err-walked : goal.returns-in_err-walked
 returns-in_err-walked c =
-    refused c.from_residual.result c.from_residual.ensures.0 ∙ sym (turn (goal.at.returns-in_err-walked c).After-step (Err (record {})) c.in_err-walked.was)
+    let at = (goal.at.returns-in_err-walked c).After-step in
+    refused c.from_residual.result c.from_residual.ensures.0 ∙ sym (turn at (Err (record {})) c.in_err-walked.was)
 
 pub returns-in_default : goal.returns-in_default
 returns-in_default c =
