@@ -2,7 +2,7 @@
 // Every answer here is equal to a definition over those of `verdict`, `ligature` and `matching`, so that no wrong reason can be given.
 #![tactic(auto)]
 
-ghost use Rattle.std.specs.Prelude.{◌≡◌, cond};
+ghost use Rattle.std.specs.Prelude.{◌≡◌};
 ghost use Rattle.glyph.specs.Glyph.{glyphs_of};
 ghost use Rattle.explain_glyph.specs.Reason.{yes_reason, no_reason, skip_reason, value_reason, match_reason};
 ghost use Rattle.explain_glyph.specs.Told.{seen_of, joined_of, turn_by, told_of};
@@ -12,7 +12,7 @@ use ligature::Ligbase;
 use verdict::{Matcher, MayMatch, MaySkip, Sign, Test, Verdict};
 
 // The rule that decided may skip.
-#[derive(Clone, Copy)]
+#[derive(Clone, Copy, Debug, PartialEq, Eq)]
 pub enum SkipReason {
     // Yes: flags 2, 4 and 8 of the lookup ignore the glyph's class.
     IgnoredBase,
@@ -33,7 +33,7 @@ pub enum SkipReason {
 }
 
 // The rule that decided may match.
-#[derive(Clone, Copy)]
+#[derive(Clone, Copy, Debug, PartialEq, Eq)]
 pub enum MatchReason {
     // No: the glyph has no bit of the matcher's mask.
     NoMask,
@@ -50,7 +50,7 @@ pub enum MatchReason {
 }
 
 // May skip, may match and the verdict, with what decided them.
-#[derive(Clone, Copy)]
+#[derive(Clone, Copy, Debug, PartialEq, Eq)]
 pub struct Seen {
     pub skip: MaySkip,
     pub why: SkipReason,
@@ -60,14 +60,14 @@ pub struct Seen {
 }
 
 // The ligature rule on a later glyph: what it knows of the base, and whether the glyph may be taken with the first.
-#[derive(Clone, Copy)]
+#[derive(Clone, Copy, Debug, PartialEq, Eq)]
 pub struct Joined {
     pub base: Ligbase,
     pub joins: bool,
 }
 
 // What a glyph makes of the match.
-#[derive(Clone, Copy)]
+#[derive(Clone, Copy, Debug, PartialEq, Eq)]
 pub enum Turn {
     // The walk goes on to the next glyph, for the same value.
     Passed,
@@ -79,7 +79,7 @@ pub enum Turn {
     Unlike,
 }
 
-#[derive(Clone, Copy)]
+#[derive(Clone, Copy, Debug, PartialEq, Eq)]
 pub struct Told {
     pub seen: Seen,
     pub joined: Joined,
@@ -89,6 +89,7 @@ pub struct Told {
 // ---- may skip
 
 // Why a glyph is skip Yes.
+#[tactic(auto, using(std::proofs::lemmas::Bool::Decides::nat_tests), unfolding(crate::specs::Reason::yes_reason))]
 fn why_yes(asked: u32, props: u32) -> SkipReason
     ensures { result ≡ yes_reason asked props }
 {
@@ -108,6 +109,7 @@ fn why_yes(asked: u32, props: u32) -> SkipReason
 }
 
 // Why a glyph is skip No.
+#[tactic(auto, using(std::proofs::lemmas::Bool::Decides::nat_tests), unfolding(crate::specs::Reason::no_reason))]
 fn why_no(m: Matcher, flags: u8) -> SkipReason
     ensures { result ≡ no_reason m flags }
 {
@@ -124,6 +126,7 @@ fn why_no(m: Matcher, flags: u8) -> SkipReason
 }
 
 // Which rule decides whether the glyph may be skipped.
+#[tactic(auto, unfolding(crate::specs::Reason::skip_reason))]
 pub fn why_skip(m: Matcher, sets: &[u16], g: Glyph) -> SkipReason
     ensures { result ≡ skip_reason m sets.now g }
 {
@@ -138,28 +141,19 @@ pub fn why_skip(m: Matcher, sets: &[u16], g: Glyph) -> SkipReason
 
 // ---- may match
 
-fn equal_or_other(b: bool) -> MatchReason
-    ensures { result ≡ cond b MatchReason.EqualId MatchReason.OtherId }
-{
-    if b {
-        MatchReason::EqualId
-    } else {
-        MatchReason::OtherId
-    }
-}
-
 fn why_value(sign: Sign, id: u32) -> MatchReason
     ensures { result ≡ value_reason sign.test sign.value id }
 {
-    let test = sign.test;
-    match test {
-        Test::Equal => equal_or_other(id == sign.value),
+    match sign.test {
+        Test::Equal if id == sign.value => MatchReason::EqualId,
+        Test::Equal => MatchReason::OtherId,
         Test::Any => MatchReason::AnyId,
         Test::Nothing => MatchReason::NoTest,
     }
 }
 
 // Which rule decides whether the glyph may match.
+#[tactic(auto, using(std::proofs::lemmas::Bool::Decides::nat_tests), unfolding(crate::specs::Reason::match_reason))]
 fn why_match(m: Matcher, sign: Sign, syllable: u8, g: Glyph) -> MatchReason
     ensures { result ≡ match_reason m sign syllable g }
 {
@@ -189,18 +183,15 @@ fn see(m: Matcher, sign: Sign, syllable: u8, sets: &[u16], g: Glyph) -> Seen
 }
 
 // What the ligature rule says of a later glyph. The base is searched for where this glyph needs it.
+#[tactic(auto, using(crate::proofs::Joins::searched_serves))]
 fn join(first: Glyph, this: Glyph, searched: &[u32], m: Matcher, sets: &[u16]) -> Joined
     ensures { result ≡ joined_of first this (glyphs_of searched.now) m sets.now }
 {
     let base = ligature::look_for_base(Ligbase::NotChecked, first, this, searched, m, sets);
-    let joins = ligature::may_join(first, this, base);
-    Joined { base, joins }
-}
-
-fn taken_if(joins: bool) -> Turn
-    ensures { result ≡ cond joins Turn.Taken Turn.Unlike }
-{
-    if joins { Turn::Taken } else { Turn::Unlike }
+    Joined {
+        base,
+        joins: ligature::may_join(first, this, base),
+    }
 }
 
 // What a verdict makes of the match, where the ligature rule is asked of glyphs that match.
@@ -208,7 +199,8 @@ fn turn_of(verdict: Verdict, joins: bool) -> Turn
     ensures { result ≡ turn_by verdict joins }
 {
     match verdict {
-        Verdict::Match => taken_if(joins),
+        Verdict::Match if joins => Turn::Taken,
+        Verdict::Match => Turn::Unlike,
         Verdict::NotMatch => Turn::Stopped,
         Verdict::Skip => Turn::Passed,
     }
@@ -227,7 +219,9 @@ pub fn tell(
 {
     let seen = see(m, sign, first.syllable, sets, this);
     let joined = join(first, this, searched, m, sets);
-    let verdict = seen.verdict;
-    let turn = turn_of(verdict, joined.joins);
-    Told { seen, joined, turn }
+    Told {
+        seen,
+        joined,
+        turn: turn_of(seen.verdict, joined.joins),
+    }
 }
