@@ -5,7 +5,7 @@ use Rattle.glyph.specs.declared.Glyph.{Glyph}
 use Rattle.glyph.specs.Glyph.{limit, glyphs_of, blank}
 use Rattle.text.specs.declared.Place.{Place}
 use Rattle.text.specs.Text.{text_of, size_of, replaced, is_full, Fits, Holds}
-use Rattle.text.specs.Changes.{size_is, at_cursor}
+use Rattle.text.specs.Changes.{size_is, at_cursor, room_for}
 use Rattle.text.specs.Laws.{sizes}
 use Rattle.run.specs.declared.Ending.TheVariants.{Full}
 use Rattle.run.specs.Run.{size, changed}
@@ -57,3 +57,6 @@ module _ (done coming : List ℕ) (s : State) (f : Fits done coming s.place) (g 
     many_on_lem done' place e o h =
         rw (cursor_is, eq-eqb g.id from e, full_is, o)
         (record { fits = h.fits; is = λ j. changed (λ t. h.text j) (run_of done coming s) })
+
+-- room for what is written
+pub ruleset rooms = (inside, room_for)

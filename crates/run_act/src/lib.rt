@@ -13,38 +13,39 @@ use run::Ending;
 use run_step::State;
 
 // Kind 1 at the cursor.
+#[tactic(auto, using(crate::specs::Laws::inside))]
 fn act_one(done: &mut [u32], coming: &[u32], s: State, from: u32, to: u32) -> State
     requires { Fits done.old coming.now s.place × (s.place.idx < limit) }
     ensures { Ran done.new coming.now result (one_on from to (run_of done.old coming.now s)) }
 {
-    let here = s.place;
-    let g = glyph::read(coming, here.idx);
+    let g = glyph::read(coming, s.place.idx);
     if g.id != from {
         return s;
     }
-    let place = text::replace_one(done, coming, here, to);
+    let place = text::replace_one(done, coming, s.place, to);
     run_step::parted(s, place)
 }
 
 // Kind 2 at the cursor. A result that would pass the limit writes nothing, and the run is Full.
+#[tactic(auto, using(crate::specs::Laws::rooms))]
 fn act_many(done: &mut [u32], coming: &[u32], s: State, from: u32, ids: &[u16]) -> State
     requires { Fits done.old coming.now s.place × (s.place.idx < limit) × (length ids.now ≤ limit) }
     ensures { Ran done.new coming.now result
         (many_on from ids.now (run_of done.old coming.now s)) }
 {
-    let here = s.place;
-    let g = glyph::read(coming, here.idx);
+    let g = glyph::read(coming, s.place.idx);
     if g.id != from {
         return s;
     }
-    if text::is_full(here, ids.len()) {
+    if text::is_full(s.place, ids.len()) {
         return run_step::ended(s, Ending::Full);
     }
-    let place = text::replace_many(done, coming, here, ids);
+    let place = text::replace_many(done, coming, s.place, ids);
     run_step::parted(s, place)
 }
 
 // Kinds 1 and 2; any other entry does nothing here. `coming` is lent as the cycle has it, to write to; these two only read it.
+#[tactic(auto, using(crate::specs::Laws::limit_most))]
 pub fn act(done: &mut [u32], coming: &mut [u32], book: &[u16], e: Entry, s: State) -> State
     requires { Fits done.old coming.old s.place × (s.place.idx < limit) × EntryInside (length book.now) e }
     ensures { Ran done.new coming.new result
@@ -52,9 +53,7 @@ pub fn act(done: &mut [u32], coming: &mut [u32], book: &[u16], e: Entry, s: Stat
 {
     match e {
         Entry::One { from, to, .. } => act_one(done, coming, s, from, to),
-        Entry::Many { from, ids, .. } => {
-            act_many(done, coming, s, from, &book[ids.from..ids.to])
-        }
+        Entry::Many { from, ids, .. } => act_many(done, coming, s, from, &book[ids.from..ids.to]),
         Entry::Chain { .. } => s,
     }
 }
