@@ -1,7 +1,7 @@
 -- Demand 1 of the three calls, in 01's numbers (01, "When the desk says no"): refused by 1, 2, 3 or 6 exactly when that line refuses and no line
 -- before it does, and nothing else is refused: what no line refuses is matched, or lost by 4, or by 5 (which of these, and when: Promises). No slot
 -- is filled but by a match.
-use Rattle.std.specs.Prelude.{ℕ, ◌≡◌, refl, List, [], ◌↔◌, ◌⊎◌, Bool, true, false, ◌&&◌, ◌||◌, eqb, leb, length, get_or}
+use Rattle.std.specs.Prelude.{ℕ, ⊤, Result, Ok, Err, ◌≡◌, refl, List, [], ◌↔◌, ◌⊎◌, Bool, true, false, ◌&&◌, ◌||◌, eqb, leb, length, get_or}
 use Rattle.std.proofs.Common.{sym, ap, inl, inr, ⊎_elim, true≢false}
 use mathlib.Core.Logic.Iff
 use Rattle.std.proofs.Math.Option.{some, some_inj, none-ne-some}
@@ -13,9 +13,8 @@ use Rattle.verdict.specs.Verdict.{Asked}
 use Rattle.matching.specs.declared.Terms.{Terms}
 use Rattle.matching.specs.declared.Refusal.{Refusal}
 use Rattle.matching.specs.declared.Refusal.TheVariants.{Shape, Cursor, Values, Start}
-use Rattle.matching_refuse.specs.declared.Fit.{Fit}
 use Rattle.matching.specs.declared.InputMatch.{InputMatch}
-use Rattle.matching.specs.declared.ContextMatch.{ContextMatch}
+use Rattle.matching.specs.declared.NoContext.{NoContext}
 use Rattle.matching.specs.Take.{Way, ahead, behind, Outcome, taken, lost, unlike}
 use Rattle.matching.specs.Matchers.{input_on, ahead_on, back_on, backward_glyphs}
 use Rattle.matching.specs.Answers.{slotted, input_told, context_told, refusal_number, input_reply, context_reply}
@@ -35,15 +34,15 @@ pub record InputRefusals (done : List ℕ) (d : ℕ) (coming : List ℕ) (len id
   pub empty : ((input_reply answer).number ≡ 0 → ⊥) → (answer.count ≡ 0) × (answer.positions ≡ slotted [])
 
 -- lookahead and backtrack, each by its own lines: 1, 2, 3 and, of lookahead, 6
-pub record ContextRefusals (lines : List Line) (Acceptable : Type 0) (answer : ContextMatch) : Type 0 where
+pub record ContextRefusals (lines : List Line) (Acceptable : Type 0) (answer : Result ℕ NoContext) : Type 0 where
   pub refused : (n : ℕ) → (context_reply answer ≡ replies n []) ↔ RefusedBy n lines
   pub let_through : Acceptable ↔ (((context_reply answer).number ≡ 0) ⊎ ((context_reply answer).number ≡ 4))
 
-abbrev pub AheadRefusals : List ℕ → ℕ → List ℕ → ℕ → ℕ → ℕ → List ℕ → ℕ → ContextMatch → Type 0
+abbrev pub AheadRefusals : List ℕ → ℕ → List ℕ → ℕ → ℕ → ℕ → List ℕ → ℕ → Result ℕ NoContext → Type 0
 AheadRefusals done d coming len idx start sets values answer =
     ContextRefusals (ahead_lines done d coming len idx sets values start) (AheadAcceptable done d coming len idx sets values start) answer
 
-abbrev pub BackRefusals : List ℕ → ℕ → List ℕ → ℕ → ℕ → List ℕ → ℕ → ContextMatch → Type 0
+abbrev pub BackRefusals : List ℕ → ℕ → List ℕ → ℕ → ℕ → List ℕ → ℕ → Result ℕ NoContext → Type 0
 BackRefusals done d coming len idx sets values answer =
     ContextRefusals (back_lines done d coming len idx sets values) (BackAcceptable done d coming len idx sets values) answer
 
@@ -62,57 +61,57 @@ refuses Start = refl
 apart : (why : Refusal) (n : ℕ) → is_refusal n ≡ false → refusal_number why ≡ n → ⊥
 apart why n f e = apart_by is_refusal (refusal_number why) n (refuses why) f e
 
-not_fits : (w : Refusal) → Fit.Refused w ≡ Fit.Fits → ⊥
+not_fits : (w : Refusal) → ◌≡◌ {A = Result ⊤ Refusal} (Err w) (Ok tt) → ⊥
 not_fits w e = let z : ◌≡◌ {A = Bool} true false = cc in true≢false z
 
 -- ---- input, by what the tests said and what came of the match
 
 module _ (text : List Glyph) (idx : ℕ) where
-  abbrev input : Fit → Outcome → InputMatch
+  abbrev input : Result ⊤ Refusal → Outcome → InputMatch
   input fit o = input_unless fit (input_told text idx o)
 
-  input_tells : (fit : Fit) (o : Outcome) (n : ℕ) → (n ≡ 5 → ⊥) → (input_reply (input fit o) ≡ replies n []) ↔ (fit_number fit ≡ some n)
-  input_tells (Fit.Refused w) o n not5 = (λ e. ap some (ap number_in e), λ e. ap (λ (k : ℕ). replies k []) (some_inj.0 e))
-  input_tells Fit.Fits (taken places) n not5 = (λ e. absurd (has_values e), λ e. absurd (none-ne-some n e))
-  input_tells Fit.Fits (lost extent) n not5 = (λ e. absurd (has_values e), λ e. absurd (none-ne-some n e))
-  input_tells Fit.Fits unlike n not5 = (λ e. absurd (not5 (sym (ap number_in e))), λ e. absurd (none-ne-some n e))
+  input_tells : (fit : Result ⊤ Refusal) (o : Outcome) (n : ℕ) → (n ≡ 5 → ⊥) → (input_reply (input fit o) ≡ replies n []) ↔ (fit_number fit ≡ some n)
+  input_tells (Err w) o n not5 = (λ e. ap some (ap number_in e), λ e. ap (λ (k : ℕ). replies k []) (some_inj.0 e))
+  input_tells (Ok fits) (taken places) n not5 = (λ e. absurd (has_values e), λ e. absurd (none-ne-some n e))
+  input_tells (Ok fits) (lost extent) n not5 = (λ e. absurd (has_values e), λ e. absurd (none-ne-some n e))
+  input_tells (Ok fits) unlike n not5 = (λ e. absurd (not5 (sym (ap number_in e))), λ e. absurd (none-ne-some n e))
 
-  input_numbers : (fit : Fit) (o : Outcome)
-      → (fit ≡ Fit.Fits) ↔ (((input_reply (input fit o)).number ≡ 0)
+  input_numbers : (fit : Result ⊤ Refusal) (o : Outcome)
+      → (fit ≡ Ok tt) ↔ (((input_reply (input fit o)).number ≡ 0)
       ⊎ (((input_reply (input fit o)).number ≡ 4) ⊎ ((input_reply (input fit o)).number ≡ 5)))
-  input_numbers (Fit.Refused w) o = (
+  input_numbers (Err w) o = (
     λ e. absurd (not_fits w e),
     ⊎_elim (λ e. absurd (apart w 0 refl e)) (⊎_elim (λ e. absurd (apart w 4 refl e)) (λ e. absurd (apart w 5 refl e))),
   )
-  input_numbers Fit.Fits (taken places) = (λ e. inl refl, λ s. refl)
-  input_numbers Fit.Fits (lost extent) = (λ e. inr (inl refl), λ s. refl)
-  input_numbers Fit.Fits unlike = (λ e. inr (inr refl), λ s. refl)
+  input_numbers (Ok fits) (taken places) = (λ e. inl refl, λ s. refl)
+  input_numbers (Ok fits) (lost extent) = (λ e. inr (inl refl), λ s. refl)
+  input_numbers (Ok fits) unlike = (λ e. inr (inr refl), λ s. refl)
 
-  input_empty : (fit : Fit) (o : Outcome) → ((input_reply (input fit o)).number ≡ 0 → ⊥)
+  input_empty : (fit : Result ⊤ Refusal) (o : Outcome) → ((input_reply (input fit o)).number ≡ 0 → ⊥)
       → ((input fit o).count ≡ 0) × ((input fit o).positions ≡ slotted [])
-  input_empty (Fit.Refused w) o n = (refl, refl)
-  input_empty Fit.Fits (taken places) n = absurd (n refl)
-  input_empty Fit.Fits (lost extent) n = (refl, refl)
-  input_empty Fit.Fits unlike n = (refl, refl)
+  input_empty (Err w) o n = (refl, refl)
+  input_empty (Ok fits) (taken places) n = absurd (n refl)
+  input_empty (Ok fits) (lost extent) n = (refl, refl)
+  input_empty (Ok fits) unlike n = (refl, refl)
 
 -- ---- context
 
 module _ (way : Way) (p : ℕ) where
-  abbrev context : Fit → Outcome → ContextMatch
+  abbrev context : Result ⊤ Refusal → Outcome → Result ℕ NoContext
   context fit o = context_unless fit (context_told way p o)
 
-  context_tells : (fit : Fit) (o : Outcome) (n : ℕ) → (context_reply (context fit o) ≡ replies n []) ↔ (fit_number fit ≡ some n)
-  context_tells (Fit.Refused w) o n = (λ e. ap some (ap number_in e), λ e. ap (λ (k : ℕ). replies k []) (some_inj.0 e))
-  context_tells Fit.Fits (taken places) n = (λ e. absurd (has_values e), λ e. absurd (none-ne-some n e))
-  context_tells Fit.Fits (lost extent) n = (λ e. absurd (has_values e), λ e. absurd (none-ne-some n e))
-  context_tells Fit.Fits unlike n = (λ e. absurd (has_values e), λ e. absurd (none-ne-some n e))
+  context_tells : (fit : Result ⊤ Refusal) (o : Outcome) (n : ℕ) → (context_reply (context fit o) ≡ replies n []) ↔ (fit_number fit ≡ some n)
+  context_tells (Err w) o n = (λ e. ap some (ap number_in e), λ e. ap (λ (k : ℕ). replies k []) (some_inj.0 e))
+  context_tells (Ok fits) (taken places) n = (λ e. absurd (has_values e), λ e. absurd (none-ne-some n e))
+  context_tells (Ok fits) (lost extent) n = (λ e. absurd (has_values e), λ e. absurd (none-ne-some n e))
+  context_tells (Ok fits) unlike n = (λ e. absurd (has_values e), λ e. absurd (none-ne-some n e))
 
-  context_numbers : (fit : Fit) (o : Outcome) → (fit ≡ Fit.Fits)
+  context_numbers : (fit : Result ⊤ Refusal) (o : Outcome) → (fit ≡ Ok tt)
       ↔ (((context_reply (context fit o)).number ≡ 0) ⊎ ((context_reply (context fit o)).number ≡ 4))
-  context_numbers (Fit.Refused w) o = (λ e. absurd (not_fits w e), ⊎_elim (λ e. absurd (apart w 0 refl e)) (λ e. absurd (apart w 4 refl e)))
-  context_numbers Fit.Fits (taken places) = (λ e. inl refl, λ s. refl)
-  context_numbers Fit.Fits (lost extent) = (λ e. inr refl, λ s. refl)
-  context_numbers Fit.Fits unlike = (λ e. inr refl, λ s. refl)
+  context_numbers (Err w) o = (λ e. absurd (not_fits w e), ⊎_elim (λ e. absurd (apart w 0 refl e)) (λ e. absurd (apart w 4 refl e)))
+  context_numbers (Ok fits) (taken places) = (λ e. inl refl, λ s. refl)
+  context_numbers (Ok fits) (lost extent) = (λ e. inr refl, λ s. refl)
+  context_numbers (Ok fits) unlike = (λ e. inr refl, λ s. refl)
 
 -- ---- the calls keep it
 

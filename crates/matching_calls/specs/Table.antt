@@ -1,6 +1,6 @@
 -- The refusals of the three calls as 01's table has them ("When the desk says no"): the code's tests tell the lines 1, 2, 3 and 6, so a call is
 -- refused by the first line that refuses, and let through exactly when each lets pass (Order). In the numbers of the calls' replies: Demand1.
-use Rattle.std.specs.Prelude.{◌≡◌, refl, Bool, true, false, cond, ◌||◌, List, [], ◌∷◌, ◌↔◌, ℕ, ◌≤◌, ◌<◌, eqb, leb, length}
+use Rattle.std.specs.Prelude.{◌≡◌, ⊤, Result, Ok, Err, refl, Bool, true, false, cond, ◌||◌, List, [], ◌∷◌, ◌↔◌, ℕ, ◌≤◌, ◌<◌, eqb, leb, length}
 use Rattle.std.proofs.Common.{sym, ap, ◌∙◌, arith}
 use Rattle.std.proofs.Math.Option.{none, some, some-ne-none}
 use Rattle.std.proofs.Math.Dec.{ltb}
@@ -9,10 +9,10 @@ use Rattle.glyph.specs.Laws.{well_shaped}
 use Rattle.glyph.specs.Sets.{odd_sets}
 use Rattle.glyph.specs.Order.{first_answer, RefusedBy, LetThrough, Tested, tests_of, lines_of, refused_exactly, through_exactly}
 use Rattle.glyph.specs.Tests.{both, at_or_past, over, nothing, paired}
+use Rattle.matching.specs.declared.Refusal.{Refusal}
 use Rattle.matching.specs.declared.Refusal.TheVariants.{Shape, Cursor, Values, Start}
 use Rattle.matching.specs.Take.{slots}
 use Rattle.matching.specs.Answers.{refusal_number}
-use Rattle.matching_refuse.specs.declared.Fit.{Fit}
 use Rattle.matching_calls.specs.Lines.{Shaped, input_lines, InputAcceptable, back_lines, BackAcceptable, ahead_lines, AheadAcceptable}
 use Rattle.matching_refuse.specs.Fit.{bad_text, input_fit, ahead_fit, back_fit, fit_number}
 
@@ -42,7 +42,7 @@ module _ (done : List ℕ) (d : ℕ) (coming : List ℕ) (len : ℕ) (sets : Lis
 
 -- ---- the tests, one after another
 
-three : (a b c : Bool) → fit_number (cond a (Fit.Refused Shape) (cond b (Fit.Refused Cursor) (cond c (Fit.Refused Values) Fit.Fits)))
+three : (a b c : Bool) → fit_number (cond a (Err Shape) (cond b (Err Cursor) (cond c (Err Values) (Ok tt))))
     ≡ cond a (some 1) (cond b (some 2) (cond c (some 3) none))
 three true b c = refl
 three false true c = refl
@@ -50,7 +50,7 @@ three false false true = refl
 three false false false = refl
 
 four : (a b c e : Bool)
-    → fit_number (cond a (Fit.Refused Shape) (cond b (Fit.Refused Cursor) (cond c (Fit.Refused Values) (cond e (Fit.Refused Start) Fit.Fits))))
+    → fit_number (cond a (Err Shape) (cond b (Err Cursor) (cond c (Err Values) (cond e (Err Start) (Ok tt)))))
     ≡ cond a (some 1) (cond b (some 2) (cond c (some 3) (cond e (some 6) none)))
 four true b c e = refl
 four false true c e = refl
@@ -59,15 +59,15 @@ four false false false true = refl
 four false false false false = refl
 
 -- a call that fits has no number
-fits_by : (f : Fit) → (f ≡ Fit.Fits) ↔ (fit_number f ≡ none)
-fits_by Fit.Fits = (λ e. refl, λ e. refl)
-fits_by (Fit.Refused why) = (λ e. ap fit_number e, λ e. absurd (some-ne-none (refusal_number why) e))
+fits_by : (f : Result ⊤ Refusal) → (f ≡ Ok tt) ↔ (fit_number f ≡ none)
+fits_by (Ok fits) = (λ e. refl, λ e. refl)
+fits_by (Err why) = (λ e. ap fit_number e, λ e. absurd (some-ne-none (refusal_number why) e))
 
-module _ (f : Fit) (ts : List Tested) (first : fit_number f ≡ first_answer (tests_of ts)) where
+module _ (f : Result ⊤ Refusal) (ts : List Tested) (first : fit_number f ≡ first_answer (tests_of ts)) where
   refused_by_lem : (n : ℕ) → (fit_number f ≡ some n) ↔ RefusedBy n (lines_of ts)
   refused_by_lem n = let t = refused_exactly ts n in (λ e. t.0 (sym first ∙ e), λ r. first ∙ t.1 r)
 
-  through_by : (f ≡ Fit.Fits) ↔ LetThrough (lines_of ts)
+  through_by : (f ≡ Ok tt) ↔ LetThrough (lines_of ts)
   through_by = let k = fits_by f in let t = through_exactly ts in (λ e. t.0 (sym first ∙ k.0 e), λ s. k.1 (first ∙ t.1 s))
 
 -- ---- the three calls
@@ -101,7 +101,7 @@ module _ (done : List ℕ) (d : ℕ) (coming : List ℕ) (len idx : ℕ) (sets :
       ↔ RefusedBy n (input_lines done d coming len idx sets values)
   input_refused = refused_by_lem (input_fit done d coming len idx sets values) input_tests input_first
 
-  pub input_fits : (input_fit done d coming len idx sets values ≡ Fit.Fits) ↔ InputAcceptable done d coming len idx sets values
+  pub input_fits : (input_fit done d coming len idx sets values ≡ Ok tt) ↔ InputAcceptable done d coming len idx sets values
   input_fits =
       let t = through_by (input_fit done d coming len idx sets values) input_tests input_first in (
         λ e. let h = t.0 e in record { shaped = h.0; inside = h.1.0; few = h.1.1.0 },
@@ -119,7 +119,7 @@ module _ (done : List ℕ) (d : ℕ) (coming : List ℕ) (len idx : ℕ) (sets :
       ↔ RefusedBy n (back_lines done d coming len idx sets values)
   back_refused = refused_by_lem (back_fit done d coming len idx sets values) back_tests back_first
 
-  pub back_fits : (back_fit done d coming len idx sets values ≡ Fit.Fits) ↔ BackAcceptable done d coming len idx sets values
+  pub back_fits : (back_fit done d coming len idx sets values ≡ Ok tt) ↔ BackAcceptable done d coming len idx sets values
   back_fits =
       let t = through_by (back_fit done d coming len idx sets values) back_tests back_first in (
         λ e. let h = t.0 e in record { shaped = h.0; inside = h.1.0; few = h.1.1.0 },
@@ -148,7 +148,7 @@ module _ (done : List ℕ) (d : ℕ) (coming : List ℕ) (len idx : ℕ) (sets :
         ↔ RefusedBy n (ahead_lines done d coming len idx sets values start)
     ahead_refused = refused_by_lem (ahead_fit done d coming len idx start sets values) ahead_tests ahead_first
 
-    pub ahead_fits : (ahead_fit done d coming len idx start sets values ≡ Fit.Fits) ↔ AheadAcceptable done d coming len idx sets values start
+    pub ahead_fits : (ahead_fit done d coming len idx start sets values ≡ Ok tt) ↔ AheadAcceptable done d coming len idx sets values start
     ahead_fits =
         let t = through_by (ahead_fit done d coming len idx start sets values) ahead_tests ahead_first in (
           λ e. let h = t.0 e in record { shaped = h.0.0; start_inside = h.0.1; inside = h.1.0; few = h.1.1.0; begun = h.1.1.1.0 },

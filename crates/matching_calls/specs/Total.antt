@@ -1,18 +1,19 @@
 -- A match's total is at most 16,320 (01, "What must change shape"): 64 glyphs at most, and a count is a byte. The original's byte overflows past 255.
-use Rattle.std.specs.Prelude.{◌≡◌, List, [], ◌∷◌, ℕ, zero, suc, ◌*◌, ◌/◌, ◌≤◌, length, get_or, take, drop}
+use Rattle.std.specs.Prelude.{◌≡◌, ⊤, Result, Ok, Err, List, [], ◌∷◌, ℕ, zero, suc, ◌*◌, ◌/◌, ◌≤◌, length, get_or, take, drop}
 use Rattle.std.proofs.Math.Path.{refl}
-use Rattle.std.proofs.Common.{sym, ◌∙◌, arith}
+use Rattle.std.proofs.Common.{sym, ap, ◌∙◌, arith}
 use Rattle.glyph.specs.declared.Glyph.{Glyph}
 use Rattle.glyph.specs.Glyph.{words, glyph_of, glyphs, glyphs_of, blank}
 use Rattle.verdict.specs.Verdict.{Asked}
 use Rattle.matching.specs.declared.Terms.{Terms}
-use Rattle.matching.specs.declared.InputAnswer.{InputAnswer}
+use Rattle.matching.specs.declared.Refusal.{Refusal}
+use Rattle.matching.specs.declared.Success.{Success}
+use Rattle.matching.specs.declared.NoMatch.{NoMatch}
 use Rattle.matching.specs.Take.{Outcome, taken, lost, unlike}
 use Rattle.matching.specs.Matchers.{input_on}
 use Rattle.matching.specs.Answers.{ligated, total_of, input_told}
 use Rattle.matching.specs.Demand2Laws.{demand_2}
 use Rattle.matching.specs.Rising.{as_many}
-use Rattle.matching_refuse.specs.declared.Fit.{Fit}
 use Rattle.matching_refuse.specs.Fit.{input_fit}
 use Rattle.matching_calls.specs.Calls.{input_unless, input_of}
 use Rattle.matching_calls.specs.Kept.{input_takes}
@@ -54,15 +55,20 @@ unfolding ligated
 ligated_most gs c [] = omega arith
 ligated_most gs c (q ∷ qs) = let a = (c q).part in let b = ligated_most gs c qs in omega arith
 
+-- the total of a success, else 0
+abbrev total_or : Result Success NoMatch → ℕ
+total_or (Ok s) = s.total
+total_or (Err why) = 0
+
 module _ {X : Type 0} (done : List ℕ) (d : ℕ) (coming : List ℕ) (len idx : ℕ) (lookup : Terms) (sets : List ℕ) (test : X → Asked)
     (values : List X) where
   abbrev text : List Glyph
   text = take len (glyphs_of coming)
 
   most_by : (o : Outcome) (end total : ℕ) → length values ≤ 63 → input_on lookup sets test (take d (glyphs_of done)) text idx values ≡ o
-      → (input_told text idx o).answer ≡ InputAnswer.Matched end total → total ≤ 16320
+      → (input_told text idx o).answer ≡ Ok (record { end = end; total = total }) → total ≤ 16320
   most_by (taken qs) end total few e m =
-      let t : total_of text idx qs ≡ total = cc in
+      let t : total_of text idx qs ≡ total = ap total_or m in
       let n =
       as_many (((demand_2 _ _ _ _ values).accepted qs).0
       (sym (input_takes lookup sets test (take d (glyphs_of done)) text idx values) ∙ e)) in
@@ -72,16 +78,16 @@ module _ {X : Type 0} (done : List ℕ) (d : ℕ) (coming : List ℕ) (len idx :
   most_by (lost extent) end total few e m = let z : ◌≡◌ {A = ℕ} 0 1 = cc in absurd (omega arith)
   most_by unlike end total few e m = let z : ◌≡◌ {A = ℕ} 0 1 = cc in absurd (omega arith)
 
-  fit_by : (f : Fit) (end total : ℕ) → input_fit done d coming len idx sets (length values) ≡ f
+  fit_by : (f : Result ⊤ Refusal) (end total : ℕ) → input_fit done d coming len idx sets (length values) ≡ f
       → (input_unless f (input_told text idx (input_on lookup sets test (take d (glyphs_of done)) text idx values))).answer
-      ≡ InputAnswer.Matched end total
+      ≡ Ok (record { end = end; total = total })
       → total ≤ 16320
-  fit_by Fit.Fits end total e m =
+  fit_by (Ok fits) end total e m =
       let few = ((input_fits done d coming len idx sets (length values)).0 e).few in
       most_by (input_on lookup sets test (take d (glyphs_of done)) text idx values) end total few refl m
-  fit_by (Fit.Refused why) end total e m = let z : ◌≡◌ {A = ℕ} 0 1 = cc in absurd (omega arith)
+  fit_by (Err why) end total e m = let z : ◌≡◌ {A = ℕ} 0 1 = cc in absurd (omega arith)
 
   -- of any call, whatever the words
-  pub total_most : (end total : ℕ) → (input_of done d coming len idx lookup sets test values).answer ≡ InputAnswer.Matched end total → total ≤ 16320
+  pub total_most : (end total : ℕ) → (input_of done d coming len idx lookup sets test values).answer ≡ Ok (record { end = end; total = total }) → total ≤ 16320
   unfolding input_of
   total_most end total m = fit_by (input_fit done d coming len idx sets (length values)) end total refl m

@@ -6,11 +6,11 @@ ghost use Rattle.verdict.specs.Verdict.{value_by};
 ghost use Rattle.matching.specs.Answers.{without};
 ghost use Rattle.matching_calls.specs.Calls.{input_of, ahead_of, back_of};
 
-use matching::{ContextMatch, InputAnswer, InputMatch, Terms};
-use matching_refuse::Fit;
+use matching::{ContextMatch, InputMatch, NoMatch, Refusal, Terms};
 use verdict::Test;
 
 // The values against the glyphs after the cursor.
+#[tactic(auto, using(crate::specs::Table::input_fits), unfolding(crate::specs::Calls::input_of))]
 pub fn match_input(
     done: &[u32],
     d: usize,
@@ -25,37 +25,17 @@ pub fn match_input(
     ensures { result ≡ input_of done.now d coming.now len idx lookup sets.now (value_by test [])
         values.now }
 {
-    match matching_refuse::input_fit(done, d, coming, len, idx, sets, values.len()) {
-        Fit::Refused(why) => return refuse(InputAnswer::Refused(why)),
-        Fit::Fits => {}
+    if let Err(why) = matching_refuse::input_fit(done, d, coming, len, idx, sets, values.len()) {
+        return refuse(why);
     }
     let before = glyph::first(done, d);
     let text = glyph::first(coming, len);
-    let settings = lookup.settings;
-    let table = settings.table;
-    let m = verdict::matcher_of(settings, false, lookup.mask, lookup.props);
-    let searched = matching::searched_row(table, before);
     let none = [0u16; 0];
-    let mut positions = [0u16; 64];
-    let answer = matching::take_input(
-        searched,
-        text,
-        idx,
-        m,
-        sets,
-        test,
-        &none,
-        values,
-        &mut positions,
-    );
-    InputMatch {
-        answer,
-        count: matching::count_of(answer, values.len()),
-        positions,
-    }
+    matching::input(before, text, idx, lookup, sets, test, &none, values)
 }
 
 // The values against the glyphs from a start on.
+#[tactic(auto, using(crate::specs::Table::ahead_fits, crate::proofs::Parts::part_place, crate::proofs::Parts::part_end), unfolding(crate::specs::Calls::ahead_of))]
 pub fn match_lookahead(
     done: &[u32],
     d: usize,
@@ -71,10 +51,7 @@ pub fn match_lookahead(
     ensures { result ≡ ahead_of done.now d coming.now len idx start lookup sets.now (value_by test [])
         values.now }
 {
-    match matching_refuse::ahead_fit(done, d, coming, len, idx, start, sets, values.len()) {
-        Fit::Refused(why) => return ContextMatch::Refused(why),
-        Fit::Fits => {}
-    }
+    matching_refuse::ahead_fit(done, d, coming, len, idx, start, sets, values.len())?;
     let text = glyph::first(coming, len);
     let cursor = glyph::read(text, idx);
     let none = [0u16; 0];
@@ -91,6 +68,7 @@ pub fn match_lookahead(
 }
 
 // The values against the glyphs of the backward row, from its end.
+#[tactic(auto, using(crate::specs::Table::back_fits, crate::proofs::Parts::part_place, crate::proofs::Parts::backward_inside), unfolding(crate::specs::Calls::back_of))]
 pub fn match_backtrack<'a>(
     done: &'a [u32],
     d: usize,
@@ -105,25 +83,20 @@ pub fn match_backtrack<'a>(
     ensures { result ≡ back_of done.now d coming.now len idx lookup sets.now (value_by test [])
         values.now }
 {
-    match matching_refuse::back_fit(done, d, coming, len, idx, sets, values.len()) {
-        Fit::Refused(why) => return ContextMatch::Refused(why),
-        Fit::Fits => {}
-    }
-    let settings = lookup.settings;
-    let table = settings.table;
+    matching_refuse::back_fit(done, d, coming, len, idx, sets, values.len())?;
     let text = glyph::first(coming, len);
-    let row = matching_context::backward_row(table, done, d, text, idx);
+    let row = matching_context::backward_row(lookup.settings.table, done, d, text, idx);
     let cursor = glyph::read(text, idx);
     let none = [0u16; 0];
     matching_context::backtrack(row, cursor.syllable, lookup, sets, test, &none, values)
 }
 
-// An answer that has no positions.
-fn refuse(answer: InputAnswer) -> InputMatch
-    ensures { result ≡ without answer }
+// A refused call has no positions.
+fn refuse(why: Refusal) -> InputMatch
+    ensures { result ≡ without (NoMatch.Refused why) }
 {
     InputMatch {
-        answer,
+        answer: Err(NoMatch::Refused(why)),
         count: 0,
         positions: [0u16; 64],
     }
