@@ -59,7 +59,7 @@ pub struct Seen {
     pub verdict: Verdict,
 }
 
-// The ligature rule on a later glyph: what it knows of the base, and whether the glyph may be taken with the first.
+// The ligature rule on a later glyph: what it knows of the base, and whether the glyph may be taken with the first, both in either case.
 #[derive(Clone, Copy, Debug, PartialEq, Eq)]
 pub struct Joined {
     pub base: Ligbase,

@@ -12,7 +12,7 @@ pub enum Table {
     Gpos,
 }
 
-// The table, and what is asked for: auto-ZWNJ, auto-ZWJ, syllables.
+// The table, and what is asked for: auto-ZWNJ, auto-ZWJ, syllables. Each flag stands for itself; none says whether another field counts.
 #[derive(Clone, Copy, Debug, PartialEq, Eq)]
 pub struct Settings {
     pub table: Table,
@@ -22,7 +22,7 @@ pub struct Settings {
 }
 
 // What a lookup asks of the glyphs that it walks over: its props and mask, which of ZWNJ, ZWJ and hidden glyphs are
-// ignored, and whether syllables are tested.
+// ignored, and whether syllables are tested: flags that stand for themselves too.
 #[derive(Clone, Copy, Debug, PartialEq, Eq)]
 pub struct Matcher {
     pub props: u32,
@@ -33,6 +33,8 @@ pub struct Matcher {
     pub syllabic: bool,
 }
 
+// The three answers; an answer's number is its place in its list. May skip and may match have the same cases and stay two types, as in the
+// original, so that neither is taken for the other.
 #[derive(Clone, Copy, Debug, PartialEq, Eq)]
 pub enum MaySkip {
     No = 0,
@@ -70,7 +72,8 @@ pub struct Sign {
     pub value: u32,
 }
 
-// The context matcher or the input matcher of a lookup.
+// The context matcher or the input matcher of a lookup. `context` is C's word for which of the two; it chooses a value and no step, so there is
+// nothing to hand in as a closure.
 #[tactic(auto, unfolding(crate::specs::Matcher::matcher_of, crate::specs::Matcher::context_matcher, crate::specs::Matcher::input_matcher))]
 pub fn matcher_of(settings: Settings, context: bool, mask: u32, props: u32) -> Matcher
     ensures { result ≡ matcher_of settings context mask props }

@@ -1,4 +1,4 @@
-// The two questions and the verdict as a user asks them: of a place of a row, answered or refused by 1.
+// The two questions and the verdict as a user asks them: of a place of a row, answered or refused by 1. The parameters are those of the C calls.
 #![tactic(auto)]
 
 ghost use Rattle.std.specs.Prelude.{◌≡◌, [], ◌||◌, get_or};

@@ -1,4 +1,5 @@
-// May a glyph match, and what does a walk make of it?
+// May a glyph match, and what does a walk make of it? Matcher, sign, lists, syllable and sets are parameters here, each one of the definition's: as
+// a struct they would be put together anew for each value that a match seeks, and be taken apart again in each contract.
 #![tactic(auto)]
 
 ghost use Rattle.std.specs.Prelude.{◌≡◌, cond};
