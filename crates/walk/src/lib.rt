@@ -21,6 +21,7 @@ pub enum Walked {
 }
 
 // From a place of a row, of which the first len glyphs count, to the next glyph that isn't passed over.
+#[tactic(auto, using(crate::proofs::Turns::call_ahead), unfolding(crate::specs::Calls::forward_of))]
 pub fn forward(
     row: &[u32],
     len: usize,
@@ -42,6 +43,7 @@ pub fn forward(
 }
 
 // Back from a place of a row, to the glyph before it that isn't passed over.
+#[tactic(auto, using(crate::proofs::Turns::call_back), unfolding(crate::specs::Calls::backward_of))]
 pub fn backward(
     row: &[u32],
     place: usize,
@@ -71,6 +73,7 @@ fn is_bad_walk(row: &[u32], len: usize, place: usize, sets: &[u16]) -> bool
 // The forward walk, given the next place to test, so that it can begin before the first glyph of a part of a row. It stands where it is called: a
 // call would cost 2 to 5 ns.
 #[inline(always)]
+#[tactic(auto, using(crate::proofs::Turns::turns_ahead))]
 pub fn forward_from(
     row: &[u32],
     len: usize,
@@ -108,6 +111,7 @@ pub fn back_extent(p: usize) -> usize
 // The backward walk: the next place to test is the one before `place`. A glyph that isn't skip Yes is read anew, so that the compiler loads only the
 // props of one that is. It stands where it is called, as the forward walk does.
 #[inline(always)]
+#[tactic(auto, using(crate::proofs::Turns::turns_back))]
 pub fn backward_from(
     row: &[u32],
     place: usize,
