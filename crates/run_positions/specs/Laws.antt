@@ -1,12 +1,12 @@
 -- What stands in each slot after a gain, a loss and an opening, and that 64 slots filled so hold the positions.
-use Rattle.std.specs.Prelude.{◌≡◌, refl, List, [], ◌∷◌, ◌++◌, map, set, take, drop, replicate}
+use Rattle.std.specs.Prelude.{◌≡◌, List, [], ◌∷◌, ◌++◌, map, set, take, drop, replicate}
 use Rattle.std.proofs.Common.{sym, ◌∙◌, length-append, length-take-le, ext_get_or, get_or-set_same, get_or-set_other}
 use Rattle.std.proofs.Math.Path.{ap, subst}
 use Prim.Native.Nat.{ℕ, zero, suc, ◌+◌, ◌-◌, ◌≤◌, ◌<◌}
 use Rattle.std.proofs.Math.Decide.{dec_lt}
 use native.Mathlib.Omega.{arith}
 use Rattle.std.proofs.Math.ListN.{length, get_or, length-drop, get_or-append, get_or-eq_default}
-use Rattle.std.proofs.lemmas.List.{length-map, length-replicate, get_or-replicate}
+use Rattle.std.proofs.lemmas.List.{get_or-map, length-map, length-replicate, get_or-replicate}
 use Rattle.std.proofs.Math.Seq.{get_or-take, get_or-drop, get_or-append-add, take-append_seam}
 use Rattle.glyph.specs.Glyph.{limit}
 use Rattle.matching.specs.Take.{slots}
@@ -96,11 +96,6 @@ following_at p zero k h = let z : ⊥ = omega arith in absurd z
 following_at p (suc n) zero h = omega arith
 following_at p (suc n) (suc k) h = following_at (p + 1) n k (omega arith) ∙ (let e : p + 1 + suc k ≡ p + suc (suc k) = omega arith in e)
 
-map_at : (f : ℕ → ℕ) (l : List ℕ) (k : ℕ) → k < length l → get_or (map f l) k 0 ≡ f (get_or l k 0)
-map_at f [] k h = let z : ⊥ = omega arith in absurd z
-map_at f (x ∷ l) zero h = refl
-map_at f (x ∷ l) (suc k) h = map_at f l k (omega arith)
-
 module _ (ps : List ℕ) (i n : ℕ) (h : i < length ps) where
   abbrev T : List ℕ
   T = take (suc i) ps
@@ -143,7 +138,7 @@ module _ (ps : List ℕ) (i n : ℕ) (h : i < length ps) where
       let e : j ≡ length (T ++ F) + k = omega arith in
       let q : suc i + k ≡ j - n = omega arith in
       ap (λ (x : ℕ). get_or (with_gain i n ps) x 0) e ∙ get_or-append-add (T ++ F) U k 0
-      ∙ map_at (λ p. p + n) (drop (suc i) ps) k (omega (arith, length-drop (suc i) ps))
+      ∙ get_or-map (λ p. p + n) (drop (suc i) ps) k 0 0 (omega (arith, length-drop (suc i) ps))
       ∙ ap (λ (x : ℕ). x + n) (get_or-drop (suc i) ps k 0 ∙ ap (λ (x : ℕ). get_or ps x 0) q)
 
   pub gained_past : (j : ℕ) → length ps + n ≤ j → get_or (with_gain i n ps) j 0 ≡ 0
@@ -166,7 +161,7 @@ module _ (ps : List ℕ) (i n : ℕ) (h : i < length ps) where
       let e : j ≡ length T + k = omega arith in
       let q : suc i + (n + k) ≡ j + n = omega arith in
       let s : k < length D = omega (arith, length-drop n (drop (suc i) ps), length-drop (suc i) ps) in
-      ap (λ (x : ℕ). get_or (with_loss i n ps) x 0) e ∙ get_or-append-add T (map (λ p. p - n) D) k 0 ∙ map_at (λ p. p - n) D k s
+      ap (λ (x : ℕ). get_or (with_loss i n ps) x 0) e ∙ get_or-append-add T (map (λ p. p - n) D) k 0 ∙ get_or-map (λ p. p - n) D k 0 0 s
       ∙ ap (λ (x : ℕ). x - n) (get_or-drop n (drop (suc i) ps) k 0 ∙ get_or-drop (suc i) ps (n + k) 0 ∙ ap (λ (x : ℕ). get_or ps x 0) q)
 
   pub lost_past : (j : ℕ) → n ≤ length ps - suc i → length ps ≤ j + n → get_or (with_loss i n ps) j 0 ≡ 0
@@ -228,7 +223,8 @@ module _ (idx d : ℕ) (places : List ℕ) (count : ℕ) (all : length places �
   many = length-take-le count places (omega arith)
 
   pub open_at : (j : ℕ) → j < count → from_done idx d (get_or places j 0) ≡ get_or (map (from_done idx d) (take count places)) j 0
-  open_at j h = sym (map_at (from_done idx d) (take count places) j (omega (arith, many)) ∙ ap (from_done idx d) (get_or-take count places j 0 h))
+  open_at j h = sym (get_or-map (from_done idx d) (take count places) j 0 0 (omega (arith, many))
+      ∙ ap (from_done idx d) (get_or-take count places j 0 h))
 
   pub open_past : (j : ℕ) → count ≤ j → 0 ≡ get_or (map (from_done idx d) (take count places)) j 0
   open_past j h = sym (get_or-eq_default (map (from_done idx d) (take count places)) 0 {n = j}

@@ -15,9 +15,6 @@ use Rattle.run_positions.specs.Slots.{level_of, shown, Neat, Placed}
 use Rattle.run_positions.specs.Laws.{size_is, count_is}
 use Rattle.run.specs.Run.{from_done, moved_level}
 
-at_most : (a b m : ℕ) → m ≡ min a b → m ≤ b
-at_most a b m e = omega arith
-
 module _ (s : Slots) (i n : ℕ) (p : Placed s.at s.count) (h : i < s.count) where
   sized : length (take s.count s.at) ≡ s.count
   sized = size_is s.at s.count i n p h
@@ -61,7 +58,7 @@ module _ (s : Slots) (i n : ℕ) (p : Placed s.at s.count) (h : i < s.count) whe
       let c : s.count - (i + 1) ≡ length (take s.count s.at) - suc i = after_own in
       let g' : gone ≡ held_back i n (level_of s) = g ∙ ap (λ (x : ℕ). min x (s.count - (i + 1))) b'
       ∙ ap (λ (x : ℕ). min (raised_to i n (level_of s)) x) c in
-      let w : gone ≤ length (take s.count s.at) - suc i = rw c at (at_most back (s.count - (i + 1)) gone g) in
+      let w : gone ≤ length (take s.count s.at) - suc i = omega arith in
       let k : s.count - gone ≡ length (with_loss i gone (take s.count s.at)) = left_over gone w in
       (λ j. record { live = s.live; end = s.end - b' j; count = k j; at = slotted (with_loss i gone (take s.count s.at)) })
       ∙ ap (λ (x : ℕ). shown (record { live = s.live; positions = with_loss i x (take s.count s.at); end = s.end - raised_to i n (level_of s) }))

@@ -25,50 +25,12 @@ pub fn repair(lv: Slots, i: usize, old: usize, new: usize) -> Slots
     ensures { result ≡ shown (repaired i old new (level_of lv)) }
 {
     if old < new {
-        return grow(lv, i, new - old);
+        return Own { lv, i }.grown(new - old);
     }
     if new < old {
-        return shrink(lv, i, old - new);
+        return Own { lv, i }.shrunk(old - new);
     }
     lv
-}
-
-#[tactic(auto, unfolding(glyph::specs::Glyph::limit))]
-fn grow(lv: Slots, i: usize, n: usize) -> Slots
-    requires { Placed lv.at lv.count × (i < lv.count) × (lv.end + n ≤ limit) × Neat lv }
-    ensures { result ≡ shown (grown_by i n (level_of lv)) }
-{
-    let end = lv.end + n;
-    if lv.count + n <= SLOTS {
-        let at = filled(lv.count + n, |j| gained_slot(&lv, i, n, j));
-        return Slots {
-            end,
-            count: lv.count + n,
-            at,
-            ..lv
-        };
-    }
-    Slots {
-        live: false,
-        end,
-        ..lv
-    }
-}
-
-fn shrink(lv: Slots, i: usize, n: usize) -> Slots
-    requires { Placed lv.at lv.count × (i < lv.count) × (get_or lv.at i 0 ≤ lv.end) }
-    ensures { result ≡ shown (shrunk_by i n (level_of lv)) }
-{
-    let own = lv.at[i] as usize;
-    let back = n.min(lv.end - own);
-    let gone = back.min(lv.count - (i + 1));
-    let at = filled(lv.count - gone, |j| lost_slot(&lv, i, gone, j));
-    Slots {
-        end: lv.end - back,
-        count: lv.count - gone,
-        at,
-        ..lv
-    }
 }
 
 // As many slots as are asked for, each with what it is to hold; the others are 0.
@@ -86,31 +48,82 @@ fn filled<F: Fn(usize) -> u16>(count: usize, slot: F) -> [u16; SLOTS]
     out
 }
 
-// Position j after a gain of n at position i.
-#[tactic(auto, using(crate::specs::Laws::gains), unfolding(glyph::specs::Glyph::limit))]
-fn gained_slot(lv: &Slots, i: usize, n: usize, j: usize) -> u16
-    requires { Placed lv.now.at lv.now.count × (i < lv.now.count) × (lv.now.count + n ≤ 64) × (j < lv.now.count + n) }
-    ensures { result ≡ get_or (with_gain i n (take lv.now.count lv.now.at)) j 0 }
-{
-    if j <= i {
-        return lv.at[j];
-    }
-    if j <= i + n {
-        return lv.at[i] + ((j - i) as u16);
-    }
-    lv.at[j - n] + (n as u16)
+// A record's own position: it is number i of a level, whose positions are places of a text.
+#[derive(Clone, Copy)]
+struct Own {
+    lv: Slots,
+    i: usize,
+    ghost placed: { Placed lv.at lv.count },
+    ghost inside: { i < lv.count },
 }
 
-// Position j after a loss of n at position `own`.
-#[tactic(auto, using(crate::specs::Laws::losses))]
-fn lost_slot(lv: &Slots, own: usize, n: usize, j: usize) -> u16
-    requires { Placed lv.now.at lv.now.count × (own < lv.now.count) × (n ≤ lv.now.count - (own + 1)) × (j < lv.now.count - n) }
-    ensures { result ≡ get_or (with_loss own n (take lv.now.count lv.now.at)) j 0 }
-{
-    if j <= own {
-        return lv.at[j];
+impl Own {
+    #[tactic(auto, unfolding(glyph::specs::Glyph::limit))]
+    fn grown(self, n: usize) -> Slots
+        requires { (self.lv.end + n ≤ limit) × Neat self.lv }
+        ensures { result ≡ shown (grown_by self.i n (level_of self.lv)) }
+    {
+        let end = self.lv.end + n;
+        if self.lv.count + n <= SLOTS {
+            let at = filled(self.lv.count + n, |j| self.gained(n, j));
+            return Slots {
+                end,
+                count: self.lv.count + n,
+                at,
+                ..self.lv
+            };
+        }
+        Slots {
+            live: false,
+            end,
+            ..self.lv
+        }
     }
-    lv.at[j + n] - (n as u16)
+
+    fn shrunk(self, n: usize) -> Slots
+        requires { get_or self.lv.at self.i 0 ≤ self.lv.end }
+        ensures { result ≡ shown (shrunk_by self.i n (level_of self.lv)) }
+    {
+        let own = self.lv.at[self.i] as usize;
+        let back = n.min(self.lv.end - own);
+        let gone = back.min(self.lv.count - (self.i + 1));
+        let at = filled(self.lv.count - gone, |j| self.lost(gone, j));
+        Slots {
+            end: self.lv.end - back,
+            count: self.lv.count - gone,
+            at,
+            ..self.lv
+        }
+    }
+
+    // Position j after a gain of n here.
+    #[tactic(auto, using(crate::specs::Laws::gains), unfolding(glyph::specs::Glyph::limit))]
+    fn gained(&self, n: usize, j: usize) -> u16
+        requires { (self.now.lv.count + n ≤ 64) × (j < self.now.lv.count + n) }
+        ensures { result ≡ get_or (with_gain self.now.i n (take self.now.lv.count self.now.lv.at)) j 0 }
+    {
+        let at = &self.lv.at;
+        if j <= self.i {
+            return at[j];
+        }
+        if j <= self.i + n {
+            return at[self.i] + ((j - self.i) as u16);
+        }
+        at[j - n] + (n as u16)
+    }
+
+    // Position j after a loss of n after this one.
+    #[tactic(auto, using(crate::specs::Laws::losses))]
+    fn lost(&self, n: usize, j: usize) -> u16
+        requires { (n ≤ self.now.lv.count - (self.now.i + 1)) × (j < self.now.lv.count - n) }
+        ensures { result ≡ get_or (with_loss self.now.i n (take self.now.lv.count self.now.lv.at)) j 0 }
+    {
+        let at = &self.lv.at;
+        if self.i < j {
+            return at[j + n] - (n as u16);
+        }
+        at[j]
+    }
 }
 
 // The level of a match whose places count in the coming row: glyph idx of the row is glyph d of the text.

@@ -16,7 +16,7 @@ use text::Place;
 // A run under way: where the text is parted, and its tally: the allowance that is left, the lookups tried so far, and how it would end now. States
 // are made by `begin`, `parted`, `ended` and `spend`. The tally's fields stand in it, and not in a struct of their own, which would be copied with
 // its padding.
-#[derive(Clone, Copy)]
+#[derive(Clone, Copy, Debug, PartialEq, Eq)]
 pub struct State {
     pub place: Place,
     pub left: u32,
@@ -25,7 +25,7 @@ pub struct State {
 }
 
 // A record before its lookup is tried: whether it is, and what the run and the level are then.
-#[derive(Clone, Copy)]
+#[derive(Clone, Copy, Debug, PartialEq, Eq)]
 pub struct Ready {
     pub go: bool,
     pub state: State,
