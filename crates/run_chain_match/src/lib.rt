@@ -56,116 +56,116 @@ fn ask(given: Given, props: u32) -> Terms
     }
 }
 
-// Input values of the book against the glyphs after the cursor.
-fn match_values(
-    before: &[u32],
-    coming: &[u32],
-    idx: usize,
-    q: Terms,
-    sets: &[u16],
-    test: Test,
-    lists: &[u16],
-    values: &[u16],
-) -> InputMatch
-    requires { (idx < length (glyphs_of coming.now)) × (length (glyphs_of coming.now) ≤ limit) × (length values.now ≤ 63) }
-    ensures { result ≡ input_told (glyphs_of coming.now) idx
-        (input_on q sets.now itself (glyphs_of before.now) (glyphs_of coming.now) idx
-        (map (value_by test lists.now) values.now)) }
-{
-    let n = values.len();
-    let wide = book::widen(values);
-    matching::input(before, coming, idx, q, sets, test, lists, &wide[..n])
+// What the values of a chain are matched by: its terms, the run's mark sets, and the book that they stand in.
+#[derive(Clone, Copy)]
+struct Search<'a> {
+    terms: Terms,
+    sets: &'a [u16],
+    book: &'a [u16],
 }
 
-// Whether lookahead values of the book are there from a start on.
-fn is_ahead(
-    coming: &[u32],
-    start: usize,
-    syllable: u8,
-    q: Terms,
-    sets: &[u16],
-    test: Test,
-    lists: &[u16],
-    values: &[u16],
-) -> bool
-    requires { (start ≤ length (glyphs_of coming.now)) × (length values.now ≤ 64) }
-    ensures { result ≡ is_taken (ahead_on q sets.now itself (glyphs_of coming.now) start syllable
-        (map (value_by test lists.now) values.now)) }
-{
-    let n = values.len();
-    if n == 0 {
-        return true;
+impl Search<'_> {
+    // Input values of the book against the glyphs after the cursor.
+    fn match_values(
+        self,
+        before: &[u32],
+        coming: &[u32],
+        idx: usize,
+        test: Test,
+        values: &[u16],
+    ) -> InputMatch
+        requires { (idx < length (glyphs_of coming.now)) × (length (glyphs_of coming.now) ≤ limit) × (length values.now ≤ 63) }
+        ensures { let s = self.entry in result ≡ input_told (glyphs_of coming.now) idx
+            (input_on s.terms s.sets.now itself (glyphs_of before.now) (glyphs_of coming.now) idx
+            (map (value_by test s.book.now) values.now)) }
+    {
+        let wide = &book::widen(values)[..values.len()];
+        matching::input(
+            before, coming, idx, self.terms, self.sets, test, self.book, wide,
+        )
     }
-    let wide = book::widen(values);
-    matching_context::lookahead(coming, start, syllable, q, sets, test, lists, &wide[..n]).is_ok()
-}
 
-// Whether backtrack values of the book are there before the cursor.
-fn is_behind(
-    before: &[u32],
-    syllable: u8,
-    q: Terms,
-    sets: &[u16],
-    test: Test,
-    lists: &[u16],
-    values: &[u16],
-) -> bool
-    requires { length values.now ≤ 64 }
-    ensures { result ≡ is_taken (back_on q sets.now itself (glyphs_of before.now) syllable
-        (map (value_by test lists.now) values.now)) }
-{
-    let n = values.len();
-    if n == 0 {
-        return true;
+    // Whether lookahead values of the book are there from a start on.
+    fn is_ahead(
+        self,
+        coming: &[u32],
+        start: usize,
+        syllable: u8,
+        test: Test,
+        values: &[u16],
+    ) -> bool
+        requires { (start ≤ length (glyphs_of coming.now)) × (length values.now ≤ 64) }
+        ensures { let s = self.entry in result ≡ is_taken (ahead_on s.terms s.sets.now itself (glyphs_of coming.now) start syllable
+            (map (value_by test s.book.now) values.now)) }
+    {
+        if values.is_empty() {
+            return true;
+        }
+        let wide = &book::widen(values)[..values.len()];
+        matching_context::lookahead(
+            coming, start, syllable, self.terms, self.sets, test, self.book, wide,
+        )
+        .is_ok()
     }
-    let wide = book::widen(values);
-    matching_context::backtrack(before, syllable, q, sets, test, lists, &wide[..n]).is_ok()
-}
 
-// A chain at the cursor: first glyph, input, lookahead, backtrack.
-fn match_chain(
-    done: &[u32],
-    coming: &[u32],
-    book: &[u16],
-    sets: &[u16],
-    tests: Tests,
-    chain: ChainParts,
-    p: Place,
-    q: Terms,
-) -> Option<Aim>
-    requires { Fits done.now coming.now p × (p.idx < limit) × GoodChain (length book.now) chain }
-    ensures { result ≡ aim_at chain.records (chain_match q sets.now (text_of done.now coming.now p)
-        (handed_chain tests book.now chain)) }
-{
-    let Place { d, idx } = p;
-    let g = glyph::read(coming, idx);
-    let test = tests.input;
-    let first = chain.first;
-    if !verdict_match::is_value(Sign { test, value: first }, book, g) {
-        return None;
+    // Whether backtrack values of the book are there before the cursor.
+    fn is_behind(self, before: &[u32], syllable: u8, test: Test, values: &[u16]) -> bool
+        requires { length values.now ≤ 64 }
+        ensures { let s = self.entry in result ≡ is_taken (back_on s.terms s.sets.now itself (glyphs_of before.now) syllable
+            (map (value_by test s.book.now) values.now)) }
+    {
+        if values.is_empty() {
+            return true;
+        }
+        let wide = &book::widen(values)[..values.len()];
+        matching_context::backtrack(
+            before, syllable, self.terms, self.sets, test, self.book, wide,
+        )
+        .is_ok()
     }
-    let before = glyph::first(done, d);
-    let input = &book[chain.input.from..chain.input.to];
-    let m = match_values(before, coming, idx, q, sets, test, book, input);
-    let Ok(success) = m.answer else {
-        return None;
-    };
-    let end = success.end;
-    let ahead = tests.lookahead;
-    let onward = &book[chain.lookahead.from..chain.lookahead.to];
-    if !is_ahead(coming, end, g.syllable, q, sets, ahead, book, onward) {
-        return None;
+
+    // A chain at the cursor: first glyph, input, lookahead, backtrack.
+    fn match_chain(
+        self,
+        done: &[u32],
+        coming: &[u32],
+        p: Place,
+        tests: Tests,
+        chain: ChainParts,
+    ) -> Option<Aim>
+        requires { Fits done.now coming.now p × (p.idx < limit) × GoodChain (length self.book.now) chain }
+        ensures { let s = self.entry in result ≡ aim_at chain.records
+            (chain_match s.terms s.sets.now (text_of done.now coming.now p) (handed_chain tests s.book.now chain)) }
+    {
+        let Place { d, idx } = p;
+        let book = self.book;
+        let g = glyph::read(coming, idx);
+        let test = tests.input;
+        let first = chain.first;
+        if !verdict_match::is_value(Sign { test, value: first }, book, g) {
+            return None;
+        }
+        let before = glyph::first(done, d);
+        let input = &book[chain.input.from..chain.input.to];
+        let m = self.match_values(before, coming, idx, test, input);
+        let Ok(success) = m.answer else {
+            return None;
+        };
+        let end = success.end;
+        let onward = &book[chain.lookahead.from..chain.lookahead.to];
+        if !self.is_ahead(coming, end, g.syllable, tests.lookahead, onward) {
+            return None;
+        }
+        let back = &book[chain.backtrack.from..chain.backtrack.to];
+        if !self.is_behind(before, g.syllable, tests.backtrack, back) {
+            return None;
+        }
+        let level = run_positions::open(&m.positions, m.count, end, idx, d);
+        Some(Aim {
+            level,
+            records: chain.records,
+        })
     }
-    let behind = tests.backtrack;
-    let back = &book[chain.backtrack.from..chain.backtrack.to];
-    if !is_behind(before, g.syllable, q, sets, behind, book, back) {
-        return None;
-    }
-    let level = run_positions::open(&m.positions, m.count, end, idx, d);
-    Some(Aim {
-        level,
-        records: chain.records,
-    })
 }
 
 // The chain of an entry at the cursor; any other entry is none.
@@ -184,5 +184,6 @@ pub fn take_aim(
     let Entry::Chain { props, parts } = e else {
         return None;
     };
-    match_chain(done, coming, book, sets, BY_ID, parts, p, ask(given, props))
+    let terms = ask(given, props);
+    Search { terms, sets, book }.match_chain(done, coming, p, BY_ID, parts)
 }

@@ -9,4 +9,4 @@ returns c =
     let a = c.args in
     let t = text_of a.done.now a.coming.now a.p in
     rw c.in-Chain.is
-    (c.match_chain.ensures ∙ aim_chain a.given a.sets.now a.book.now t c.in-Chain.props c.in-Chain.parts c.ask.result c.ask.ensures)
+    (c.match_chain.ensures ∙ aim_chain a.given a.sets.now a.book.now t c.in-Chain.props c.in-Chain.parts c.ask-terms.result c.ask-terms.ensures)
