@@ -1,10 +1,10 @@
 // Digests of sets of glyphs: small sums that say "not in it" for certain, or "maybe".
 #![tactic(auto)]
 
-ghost use Rattle.std.specs.Prelude.{◌≡◌, ℕ, ◌/◌, ◌^◌, ◌<◌, ◌||◌};
+ghost use Rattle.std.specs.Prelude.{◌≡◌, ℕ, ◌+◌, ◌-◌, ◌/◌, ◌%◌, ◌^◌, ◌<◌, ◌||◌, nat_le};
 ghost use Rattle.bits.specs.Bits.{bit};
 ghost use Rattle.mask.specs.Mask.{round};
-ghost use Rattle.digest.specs.Digest.{Says, bits_of, shift, place, wide, none_set, all_set, united};
+ghost use Rattle.digest.specs.Digest.{Says, bits_of, shift, none_set, all_set, united};
 ghost use Rattle.digest.specs.Digest.{added, added_all, ranged, every_bit, range_yes, may_have, may_intersect};
 
 const SHIFTS: [u32; 3] = [4, 0, 6];
@@ -89,8 +89,10 @@ impl SetDigest {
         let mut masks = [0; 3];
         let mut yes = false;
         for i in 0..3 {
-            masks[i] = old[i] | range_of(i, a, b);
-            yes |= !is_wide(i, a, b);
+            let from = shifted(i, a);
+            let to = shifted(i, b);
+            masks[i] = old[i] | range_of(from, to);
+            yes |= !is_wide(from, to);
         }
         Ranged {
             digest: SetDigest { masks },
@@ -143,21 +145,19 @@ fn shifted(i: usize, g: u32) -> u32
     g >> SHIFTS[i]
 }
 
-// Whether a range takes all 64 bits of mask i.
-fn is_wide(i: usize, a: u32, b: u32) -> bool
-    requires { i < 3 }
-    ensures { result ≡ wide i a b }
+// Whether a range of shifted glyphs takes all 64 bits of a mask.
+fn is_wide(a: u32, b: u32) -> bool
+    ensures { result ≡ nat_le 63 ((b + 2 ^ 64 - a) % 2 ^ 64) }
 {
-    (shifted(i, b) as u64).wrapping_sub(shifted(i, a) as u64) >= 63
+    (b as u64).wrapping_sub(a as u64) >= 63
 }
 
-// The bits that a range sets in mask i.
-fn range_of(i: usize, a: u32, b: u32) -> u64
-    requires { i < 3 }
-    ensures { (k : ℕ) → k < 64 → bit k result ≡ (wide i a b || round (place i a) (place i b) k) }
+// The bits that a range of shifted glyphs sets in a mask.
+fn range_of(a: u32, b: u32) -> u64
+    ensures { (k : ℕ) → k < 64 → bit k result ≡ (nat_le 63 ((b + 2 ^ 64 - a) % 2 ^ 64) || round (a % 64) (b % 64) k) }
 {
-    if is_wide(i, a, b) {
+    if is_wide(a, b) {
         return mask::ALL;
     }
-    mask::arc(shifted(i, a), shifted(i, b))
+    mask::arc(a, b)
 }

@@ -8,9 +8,4 @@ returns-then-is_wide c = λ k h. ones_bit 64 k ∙ lt-ltb k 64 h ∙ rw (← c.i
 
 pub returns : goal.returns
 returns c =
-    λ k h. c.arc.ensures k h ∙ rw (
-      ← c.is_wide.ensures,
-      c.if-is_wide.false,
-      c.shifted.ensures,
-      c.shifted-2.ensures,
-    )
+    λ k h. c.arc.ensures k h ∙ rw (← c.is_wide.ensures, c.if-is_wide.false)

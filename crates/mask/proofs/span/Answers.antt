@@ -8,11 +8,6 @@ pub overflow_sub-result : goal.overflow_sub-result
 overflow_sub-result c = let a = c.args.a in let b = c.args.b in
     rw (shifted a (omega arith), shifted b (omega arith)) (omega (arith, pow_le a b (omega arith)))
 
-pub overflow_add-result : goal.overflow_add-result
-overflow_add-result c = let a = c.args.a in let b = c.args.b in
-    rw (shifted a (omega arith), shifted b (omega arith))
-    (omega (arith, pow_le a b (omega arith), pow_le (b + 1) 64 (omega arith), pow-add 2 b 1, pow_pos a))
-
 pub returns : goal.returns
 returns c = λ k. let a = c.args.a in let b = c.args.b in
     rw (shifted a (omega arith), shifted b (omega arith)) (span_bit a b k (omega arith))

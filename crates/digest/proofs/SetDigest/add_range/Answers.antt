@@ -28,11 +28,12 @@ loop-i-preserved c =
     let d = c.args in
     record {
       three = simp length-set l.invariant.three;
-      noted = noted_more (λ j. wide j d.a d.b) l.i l.yes c.is_wide.result l.invariant.noted c.is_wide.ensures;
+      noted = noted_more (λ j. wide j d.a d.b) l.i l.yes c.is_wide.result l.invariant.noted
+          (rw (c.shifted-from.ensures, c.shifted-to.ensures) at c.is_wide.ensures);
       made = made_more l.masks (ranged d.a d.b (λ j k. bit k (get_or d.self.masks j 0))) l.i _ (omega arith) l.invariant.made
           (λ k h.
           or_bit k (get_or d.self.masks l.i 0) c.range_of.result
-          ∙ ap (λ (t : Bool). bit k (get_or d.self.masks l.i 0) || t) (c.range_of.ensures k h));
+          ∙ ap (λ (t : Bool). bit k (get_or d.self.masks l.i 0) || t) (rw (c.shifted-from.ensures, c.shifted-to.ensures) at (c.range_of.ensures k h)));
     }
 
 pub returns : goal.returns
