@@ -42,6 +42,7 @@ impl<'a> Stretch<'a> {
 
 // The place up to which a forward walk passes over every glyph, as far as is seen; `next` is the next place to test. What the crossing is handed, a
 // part of the row and the sets, is made where it is called: the short walks, which don't call, then keep their own slices out of memory.
+#[tactic(auto, using(crate::proofs::Crossing::rows))]
 pub fn cross_ahead(row: &[u32], len: usize, next: usize, asked: u32, sets: &[u16]) -> usize
     requires { (len ≤ length (glyphs_of row.now)) × (next ≤ len + 1) }
     ensures { (next ≤ result) × (result ≤ max len next) × AllYes (yes_at asked sets.now (glyphs_of row.now)) next result }
@@ -66,6 +67,7 @@ pub fn cross_ahead(row: &[u32], len: usize, next: usize, asked: u32, sets: &[u16
 }
 
 // The place down to which a backward walk passes over every glyph, as far as is seen.
+#[tactic(auto, using(crate::proofs::Crossing::rows))]
 pub fn cross_behind(row: &[u32], place: usize, asked: u32, sets: &[u16]) -> usize
     requires { place ≤ length (glyphs_of row.now) }
     ensures { (result ≤ place) × AllYes (yes_at asked sets.now (glyphs_of row.now)) result place }
@@ -126,6 +128,7 @@ fn may_pass_marks(asked: u32) -> bool
 // How many of the places left to test are left after those that are seen to be skip Yes. Forward they are the last places before len, backward the
 // first ones of the row. Both directions call it, so the compiler leaves it a function of its own, out of the short walks' way. It takes the stretch
 // in parts, for speed: as a struct it would be handed over in memory.
+#[tactic(auto, using(crate::proofs::Crossing::ways))]
 fn left_after(row: &[u32], len: usize, left: usize, back: bool, asked: u32, sets: &[u16]) -> usize
     requires { (2 * block ≤ left) × (left ≤ len) × (len ≤ length (glyphs_of row.now)) }
     ensures { (result ≤ left) × Crossed (yes_at asked sets.now (glyphs_of row.now)) back len left result }
@@ -171,6 +174,7 @@ fn past_class(s: Stretch, asked: u32, class: u16) -> usize
 
 // How many places are left after the blocks that one look each tells to be skip Yes. It stands where it is called, so that `past_class` has two
 // loops. They are `while`s: what is left falls by a block, and a range that steps down takes a measure and a bound more.
+#[tactic(auto, using(crate::proofs::Crossing::blocks))]
 #[inline(always)]
 fn past_blocks(s: Stretch, asked: u32, class: u16) -> usize
     requires { class < 256 }
@@ -198,6 +202,7 @@ fn is_shown(asked: u32, class: u16, flipped: u16) -> bool
 }
 
 // The bits that a block's props have in common, once those of `class` are flipped.
+#[tactic(auto, using(crate::proofs::Crossing::bits_shared))]
 fn shared(row: &[u32], p: usize, class: u16) -> u16
     requires { (p + block ≤ length (glyphs_of row.now)) × (class < 256) }
     ensures { Common (flipped_at class (glyphs_of row.now)) result p (p + block) }
@@ -214,6 +219,7 @@ fn shared(row: &[u32], p: usize, class: u16) -> u16
 
 // Only where the first two blocks are all marks. A digest is made once the marks of one were sought pair by pair: it costs as much as some eight
 // searches, and a mark of the set ends the crossing.
+#[tactic(auto, using(crate::proofs::Crossing::marks))]
 fn past_set(s: Stretch, set: u32, sets: &[u16]) -> usize
     requires { 2 * block ≤ s.left }
     ensures { (result ≤ s.entry.left)
@@ -235,6 +241,7 @@ fn past_set(s: Stretch, set: u32, sets: &[u16]) -> usize
 }
 
 // How many places are left after the marks outside the set; it goes no further than `least`.
+#[tactic(auto, using(crate::proofs::Crossing::places))]
 fn past_outside(s: Stretch, least: usize, set: u32, sets: &[u16], d: SetDigest) -> usize
     requires { (least ≤ s.left) × Admits d sets.now set }
     ensures { (result ≤ s.entry.left)
@@ -266,6 +273,7 @@ fn is_outside(row: &[u32], p: usize, set: u32, sets: &[u16], d: SetDigest) -> bo
 }
 
 // A digest that admits each glyph of a set.
+#[tactic(auto, using(crate::proofs::Crossing::digests))]
 fn digest_of(sets: &[u16], set: u32) -> SetDigest
     ensures { Admits result sets.now set }
 {

@@ -3,16 +3,8 @@ use Rattle.std.proofs.Common.{ap, arith, ◌*◌, ◌+◌}
 use lib.Bits.{bit_xor}
 use Rattle.glyph.specs.declared.Glyph.{Glyph}
 use Rattle.glyph.specs.Glyph.{glyphs_of}
-use Rattle.glyph.specs.Laws.{length-glyphs_of}
-use Rattle.walk_stretch.specs.Blocks.{flipped_at, common_none, common_more}
+use Rattle.walk_stretch.specs.Blocks.{flipped_at, common_more}
 use Rattle.walk_stretch.proofs.shared.Goals as goal
-
-pub loop-k-init : goal.loop-k-init
-loop-k-init c = let a = c.args in
-    common_none (flipped_at a.class (glyphs_of a.row.now)) a.p (a.p + 0) 65535 (omega arith)
-
-pub overflow_add-p : goal.overflow_add-p
-overflow_add-p c = let a = c.args in omega (arith, length-glyphs_of a.row.now)
 
 pub loop-k-preserved : goal.loop-k-preserved
 loop-k-preserved c =
@@ -20,6 +12,3 @@ loop-k-preserved c =
     let l = c.loop-k in
     common_more (flipped_at a.class (glyphs_of a.row.now)) a.p (a.p + l.k) l.all _ _
     (ap (λ (g : Glyph). bit_xor g.props (a.class * 256)) c.read.ensures) (omega arith) l.invariant
-
-pub returns : goal.returns
-returns c = λ i l g. c.loop-k.invariant i l (omega arith)

@@ -3,9 +3,6 @@ use Rattle.std.proofs.Common.{get_or, ◌*◌, ◌+◌}
 use Rattle.walk_stretch.specs.Outside.{add_admits, add_admitted}
 use Rattle.walk_stretch.proofs.with_pair.Goals as goal
 
-pub returns-then-sets-i : goal.returns-then-sets-i
-returns-then-sets-i c = record { keeps = λ g e. e; admits = λ e. absurd (c.if-sets-i.true e) }
-
 pub returns : goal.returns
 returns c = let a = c.args in
     let x = get_or a.sets.now (2 * a.k + 1) 0 in
