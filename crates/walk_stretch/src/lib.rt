@@ -38,6 +38,81 @@ impl<'a> Stretch<'a> {
     {
         if self.back { left - n } else { self.len - left }
     }
+
+    // ---- a block at a time, by classes
+
+    // With no class asked nothing is flipped: the compiler makes a loop of its own of that, in which a glyph takes fewer instructions.
+    fn past_class(self, asked: u32, class: u16) -> usize
+        requires { class < 256 }
+        ensures { (result ≤ self.entry.left)
+            × Crossed (shown_at asked class (glyphs_of self.entry.row.now)) self.entry.back self.entry.len self.entry.left result }
+    {
+        if class == 0 {
+            return self.past_blocks(asked, 0);
+        }
+        self.past_blocks(asked, class)
+    }
+
+    // How many places are left after the blocks that one look each tells to be skip Yes. It stands where it is called, so that `past_class` has two
+    // loops. They are `while`s: what is left falls by a block, and a range that steps down takes a measure and a bound more.
+    #[tactic(auto, using(crate::proofs::Crossing::blocks))]
+    #[inline(always)]
+    fn past_blocks(self, asked: u32, class: u16) -> usize
+        requires { class < 256 }
+        ensures { (result ≤ self.entry.left)
+            × Crossed (shown_at asked class (glyphs_of self.entry.row.now)) self.entry.back self.entry.len self.entry.left result }
+    {
+        let mut rest = self.left;
+        while BLOCK <= rest {
+            let p = self.lowest(rest, BLOCK);
+            if !is_shown(asked, class, shared(self.row, p, class)) {
+                return rest;
+            }
+            rest -= BLOCK;
+        }
+        rest
+    }
+
+    // ---- a glyph at a time, by a digest of the set that the lookup names
+
+    // Only where the first two blocks are all marks. A digest is made once the marks of one were sought pair by pair: it costs as much as some eight
+    // searches, and a mark of the set ends the crossing.
+    #[tactic(auto, using(crate::proofs::Crossing::marks))]
+    fn past_set(self, set: u32, sets: &[u16]) -> usize
+        requires { 2 * block ≤ self.left }
+        ensures { (result ≤ self.entry.left)
+            × Crossed (outside_at set sets.now (glyphs_of self.entry.row.now)) self.entry.back self.entry.len self.entry.left result }
+    {
+        let least = self.left - BLOCK;
+        let marks = shared(self.row, self.lowest(self.left, BLOCK), 0)
+            & shared(self.row, self.lowest(least, BLOCK), 0);
+        if !is_mark(marks) {
+            return self.left;
+        }
+        let tried = self.past_outside(least, set, sets, SetDigest::full());
+        if least < tried {
+            return tried;
+        }
+        let mut rest = self;
+        rest.left = tried;
+        rest.past_outside(0, set, sets, digest_of(sets, set))
+    }
+
+    // How many places are left after the marks outside the set; it goes no further than `least`.
+    #[tactic(auto, using(crate::proofs::Crossing::places))]
+    fn past_outside(self, least: usize, set: u32, sets: &[u16], d: SetDigest) -> usize
+        requires { (least ≤ self.left) × Admits d sets.now set }
+        ensures { (result ≤ self.entry.left)
+            × Crossed (outside_at set sets.now (glyphs_of self.entry.row.now)) self.entry.back self.entry.len self.entry.left result }
+    {
+        for rest in (least..self.left).rev() {
+            let p = self.lowest(rest + 1, 1);
+            if !is_outside(self.row, p, set, sets, d) {
+                return rest + 1;
+            }
+        }
+        least
+    }
 }
 
 // The place up to which a forward walk passes over every glyph, as far as is seen; `next` is the next place to test. What the crossing is handed, a
@@ -141,9 +216,9 @@ fn left_after(row: &[u32], len: usize, left: usize, back: bool, asked: u32, sets
     };
     // a set is named, and marks aren't ignored as a class
     if asked / 8 % 4 == 2 {
-        return past_set(s, asked / 65536, sets);
+        return s.past_set(asked / 65536, sets);
     }
-    past_class(s, asked, class_asked(asked))
+    s.past_class(asked, class_asked(asked))
 }
 
 // The attachment class that the lookup goes by, 0 if it goes by none.
@@ -159,38 +234,6 @@ fn class_asked(asked: u32) -> u16
 }
 
 // ---- a block at a time, by classes
-
-// With no class asked nothing is flipped: the compiler makes a loop of its own of that, in which a glyph takes fewer instructions.
-fn past_class(s: Stretch, asked: u32, class: u16) -> usize
-    requires { class < 256 }
-    ensures { (result ≤ s.entry.left)
-        × Crossed (shown_at asked class (glyphs_of s.entry.row.now)) s.entry.back s.entry.len s.entry.left result }
-{
-    if class == 0 {
-        return past_blocks(s, asked, 0);
-    }
-    past_blocks(s, asked, class)
-}
-
-// How many places are left after the blocks that one look each tells to be skip Yes. It stands where it is called, so that `past_class` has two
-// loops. They are `while`s: what is left falls by a block, and a range that steps down takes a measure and a bound more.
-#[tactic(auto, using(crate::proofs::Crossing::blocks))]
-#[inline(always)]
-fn past_blocks(s: Stretch, asked: u32, class: u16) -> usize
-    requires { class < 256 }
-    ensures { (result ≤ s.entry.left)
-        × Crossed (shown_at asked class (glyphs_of s.entry.row.now)) s.entry.back s.entry.len s.entry.left result }
-{
-    let mut rest = s.left;
-    while BLOCK <= rest {
-        let p = s.lowest(rest, BLOCK);
-        if !is_shown(asked, class, shared(s.row, p, class)) {
-            return rest;
-        }
-        rest -= BLOCK;
-    }
-    rest
-}
 
 // Whether props in which the class asked was flipped tell of a glyph that it is skip Yes.
 #[tactic(auto, unfolding(crate::specs::Blocks::props_show))]
@@ -216,45 +259,6 @@ fn shared(row: &[u32], p: usize, class: u16) -> u16
 }
 
 // ---- a glyph at a time, by a digest of the set that the lookup names
-
-// Only where the first two blocks are all marks. A digest is made once the marks of one were sought pair by pair: it costs as much as some eight
-// searches, and a mark of the set ends the crossing.
-#[tactic(auto, using(crate::proofs::Crossing::marks))]
-fn past_set(s: Stretch, set: u32, sets: &[u16]) -> usize
-    requires { 2 * block ≤ s.left }
-    ensures { (result ≤ s.entry.left)
-        × Crossed (outside_at set sets.now (glyphs_of s.entry.row.now)) s.entry.back s.entry.len s.entry.left result }
-{
-    let least = s.left - BLOCK;
-    let marks = shared(s.row, s.lowest(s.left, BLOCK), 0)
-        & shared(s.row, s.lowest(least, BLOCK), 0);
-    if !is_mark(marks) {
-        return s.left;
-    }
-    let tried = past_outside(s, least, set, sets, SetDigest::full());
-    if least < tried {
-        return tried;
-    }
-    let mut rest = s;
-    rest.left = tried;
-    past_outside(rest, 0, set, sets, digest_of(sets, set))
-}
-
-// How many places are left after the marks outside the set; it goes no further than `least`.
-#[tactic(auto, using(crate::proofs::Crossing::places))]
-fn past_outside(s: Stretch, least: usize, set: u32, sets: &[u16], d: SetDigest) -> usize
-    requires { (least ≤ s.left) × Admits d sets.now set }
-    ensures { (result ≤ s.entry.left)
-        × Crossed (outside_at set sets.now (glyphs_of s.entry.row.now)) s.entry.back s.entry.len s.entry.left result }
-{
-    for rest in (least..s.left).rev() {
-        let p = s.lowest(rest + 1, 1);
-        if !is_outside(s.row, p, set, sets, d) {
-            return rest + 1;
-        }
-    }
-    least
-}
 
 // Whether a glyph is a mark outside the set, where a digest admits each glyph of the set.
 #[tactic(auto, using(crate::specs::Outside::not_admitted, std::proofs::lemmas::Bool::Decides::nat_tests))]
