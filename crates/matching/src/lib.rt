@@ -1,4 +1,5 @@
-// The matchers' types and definitions, and input against a text.
+// The matchers' types and definitions, and input against a text. Rows, places, terms, sets, test and values are handed on one by one, as the users'
+// calls have them: a struct of them would be no plainer, since each matcher takes others and its definition names each.
 #![tactic(auto)]
 
 ghost use Rattle.std.specs.Prelude.{◌≡◌, [], ◌<◌, length};
@@ -13,13 +14,14 @@ ghost use Rattle.matching.specs.Answers.{slotted, input_told, refusal_number, an
 ghost use Rattle.matching.specs.Cases.{count_of, made_of};
 
 use ligature::Ligbase;
-use verdict::{Matcher, Settings, Sign, Table, Test, Verdict};
+use verdict::{Matcher, Settings, Sign, Table, Test};
+use walk::Walked;
 
 // Positions of a match, at most.
 pub const MAX_CONTEXT_LENGTH: usize = 64;
 
 // What a lookup asks of a text, the same for every glyph.
-#[derive(Clone, Copy)]
+#[derive(Clone, Copy, Debug, PartialEq, Eq)]
 pub struct Terms {
     pub settings: Settings,
     pub mask: u32,
@@ -71,7 +73,7 @@ impl From<Refusal> for NoMatch {
 pub type InputAnswer = Result<Success, NoMatch>;
 
 // The answer, and the positions that it counts; the other slots are 0.
-#[derive(Clone, Copy)]
+#[derive(Clone, Copy, Debug, PartialEq, Eq)]
 pub struct InputMatch {
     pub answer: InputAnswer,
     pub count: usize,
@@ -98,7 +100,9 @@ pub type ContextMatch = Result<usize, NoContext>;
 
 // ---- the matchers over glyphs, every one of which counts
 
-// Input. The search for a base goes back over `before`, under GPOS over nothing.
+// Input. The search for a base goes back over `before`, under GPOS over nothing. It stands where it is called: an answer has 152 bytes.
+#[inline(always)]
+#[tactic(auto, unfolding(crate::specs::Matchers::input_on))]
 pub fn input(
     before: &[u32],
     text: &[u32],
@@ -114,10 +118,8 @@ pub fn input(
         (input_on lookup sets.now (value_by test lists.now) (glyphs_of before.now) (glyphs_of text.now) idx
         values.now) }
 {
-    let settings = lookup.settings;
-    let table = settings.table;
-    let m = verdict::matcher_of(settings, false, lookup.mask, lookup.props);
-    let searched = searched_row(table, before);
+    let m = verdict::matcher_of(lookup.settings, false, lookup.mask, lookup.props);
+    let searched = searched_row(lookup.settings.table, before);
     let mut positions = [0u16; 64];
     let answer = take_input(
         searched,
@@ -155,9 +157,8 @@ pub fn searched_row(table: Table, before: &[u32]) -> &[u32]
     }
 }
 
-// Input with a matcher. The positions are written to slots that are lent, so that they are handed on only once. The forward walk's loop stands here
-// once more, for speed: one loop goes over all values, where a walk for each would be a call for each. The laws of a turn are the walk's
-// (walk/Steps).
+// Input with a matcher. The positions are written to slots that are lent, so that they are handed on only once.
+#[tactic(auto, unfolding(glyph::specs::Glyph::limit))]
 pub fn take_input(
     searched: &[u32],
     text: &[u32],
@@ -181,29 +182,21 @@ pub fn take_input(
     let mut total = first.count as u16;
     let mut base = Ligbase::NotChecked;
     let mut next = idx + 1;
-    let mut i = 0;
-    while i < values.len() {
-        if len <= next {
-            return lose(NoMatch::Lost(next), positions);
-        }
-        let q = next;
-        next += 1;
-        let this = glyph::read(text, q);
-        if !verdict_skip::is_skip_yes(m, sets, this) {
-            let value = values[i];
-            match verdict_match::on_rest(m, Sign { test, value }, lists, first.syllable, this) {
-                Verdict::Match => {
-                    base = ligature::look_for_base(base, first, this, searched, m, sets);
-                    if !ligature::may_join(first, this, base) {
-                        return lose(NoMatch::Ligature, positions);
-                    }
-                    i += 1;
-                    positions[i] = q as u16;
-                    total += this.ligated as u16;
+    for (i, &value) in values.iter().enumerate() {
+        let sign = Sign { test, value };
+        match walk::forward_from(text, len, next, m, sign, lists, first.syllable, sets) {
+            Walked::Found(q) => {
+                let this = glyph::read(text, q);
+                base = ligature::look_for_base(base, first, this, searched, m, sets);
+                if !ligature::may_join(first, this, base) {
+                    return lose(NoMatch::Ligature, positions);
                 }
-                Verdict::NotMatch => return lose(NoMatch::Lost(next), positions),
-                Verdict::Skip => {}
+                positions[i + 1] = q as u16;
+                total += this.ligated as u16;
+                next = q + 1;
             }
+            Walked::Stopped(extent) => return lose(NoMatch::Lost(extent), positions),
+            Walked::RanOut(extent) => return lose(NoMatch::Lost(extent), positions),
         }
     }
     Ok(Success { end: next, total })

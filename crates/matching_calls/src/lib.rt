@@ -96,7 +96,7 @@ fn refuse(why: Refusal) -> InputMatch
     ensures { result ≡ without (NoMatch.Refused why) }
 {
     InputMatch {
-        answer: Err(NoMatch::Refused(why)),
+        answer: Err(NoMatch::from(why)),
         count: 0,
         positions: [0u16; 64],
     }

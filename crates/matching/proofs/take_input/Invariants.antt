@@ -1,4 +1,4 @@
-use Rattle.std.proofs.Common.{get_or, ◌-◌}
+use Rattle.std.proofs.Common.{get_or}
 use Rattle.glyph.specs.Glyph.{glyphs_of, blank}
 use Rattle.verdict.specs.Verdict.{value_by}
 use Rattle.ligature.specs.Ligature.{base_skips}
@@ -12,6 +12,3 @@ invariant-loop-i l = Going (glyphs_of l.text) (judge l.m l.sets (value_by l.test
     (glyphs_of l.text))
     (joins l.m l.sets (glyphs_of l.searched) (glyphs_of l.text) l.idx) l.idx l.values l.positions l.total l.next l.i
     × Known l.base (base_skips l.m l.sets l.first.lig (glyphs_of l.searched))
-
-abbrev pub decreases-loop-i : goal.decreases-loop-i
-decreases-loop-i l = l.len - l.next
