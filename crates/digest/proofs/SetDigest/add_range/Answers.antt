@@ -33,7 +33,8 @@ loop-i-preserved c =
       made = made_more l.masks (ranged d.a d.b (λ j k. bit k (get_or d.self.masks j 0))) l.i _ (omega arith) l.invariant.made
           (λ k h.
           or_bit k (get_or d.self.masks l.i 0) c.range_of.result
-          ∙ ap (λ (t : Bool). bit k (get_or d.self.masks l.i 0) || t) (rw (c.shifted-from.ensures, c.shifted-to.ensures) at (c.range_of.ensures k h)));
+          ∙ ap (λ (t : Bool). bit k (get_or d.self.masks l.i 0) || t)
+          (rw (c.shifted-from.ensures, c.shifted-to.ensures) at (c.range_of.ensures k h)));
     }
 
 pub returns : goal.returns
