@@ -2,14 +2,14 @@
 #![tactic(auto)]
 
 ghost use Rattle.std.specs.Prelude.{◌≡◌, [], ◌∷◌, ◌+◌, ◌-◌, ◌*◌, ◌≤◌, ◌<◌, min, length, take, drop};
-ghost use Rattle.matching.specs.Answers.{refusal_number, input_reply};
+ghost use Rattle.matching.specs.Answers.{input_reply, without};
 ghost use Rattle.matching.specs.Take.{slots};
 ghost use Rattle.tape_frame.specs.Frame.{most_glyphs};
 ghost use Rattle.tape_frame.specs.Line.{capital, digits_of, half};
 ghost use Rattle.tape_frame.specs.Put.{put, Puts};
 ghost use Rattle.tape_answer.specs.Line.{most_answer, newline, halves, matched_bytes, answer_bytes, with_newline};
 
-use matching::{InputAnswer, InputMatch};
+use matching::{InputMatch, NoMatch, Success};
 
 // The longest answer: 00, end, total and count, a position for each record of a row, and 0A.
 pub const MOST_ANSWER: usize = 13 + 4 * tape_frame::MOST_GLYPHS;
@@ -23,18 +23,10 @@ const SLOTS: usize = matching::MAX_CONTEXT_LENGTH;
 // What ends a line.
 pub const NEWLINE: u8 = 10;
 
-// How far a tape is read: the place in the piece at hand, the bytes kept of the line so far, and the bytes of answers so far.
-#[derive(Clone, Copy)]
+// How far a tape is read: the place in the piece at hand, and the bytes of answers so far.
+#[derive(Clone, Copy, Debug, PartialEq, Eq)]
 pub struct Fed {
     pub at: usize,
-    pub kept: usize,
-    pub written: usize,
-}
-
-// The same of one byte.
-#[derive(Clone, Copy)]
-pub struct Taken {
-    pub kept: usize,
     pub written: usize,
 }
 
@@ -44,10 +36,7 @@ fn capital(n: u8) -> u8
     requires { n < 16 }
     ensures { result ≡ capital n }
 {
-    if n < 10 {
-        return 48 + n;
-    }
-    55 + n
+    if n < 10 { b'0' + n } else { b'A' + (n - 10) }
 }
 
 fn put_byte(out: &mut [u8], at: usize, x: u8)
@@ -93,64 +82,51 @@ fn put_extent(out: &mut [u8], at: usize, extent: usize) -> usize
     put_newline(out, at + 6)
 }
 
-// The first n positions.
-fn put_positions(out: &mut [u8], at: usize, n: usize, positions: &[u16])
-    requires { (n ≤ length positions.now) × (at + 4 * n ≤ length out.old) }
-    ensures { out.new ≡ put out.old at (digits_of (halves (take n positions.now))) }
+fn put_positions(out: &mut [u8], at: usize, positions: &[u16])
+    requires { at + 4 * length positions.now ≤ length out.old }
+    ensures { out.new ≡ put out.old at (digits_of (halves positions.now)) }
 {
-    let mut i = 0;
-    while i < n {
-        put_half(out, at + 4 * i, positions[i] as usize);
-        i += 1;
+    for (i, position) in positions.iter().enumerate() {
+        put_half(out, at + 4 * i, *position as usize);
     }
 }
 
 // 00, end, total, the number of positions, and the positions.
-fn put_matched(
-    out: &mut [u8],
-    at: usize,
-    end: usize,
-    total: u16,
-    n: usize,
-    positions: &[u16; SLOTS],
-) -> usize
-    requires { (n ≤ most_glyphs) × (at + most_answer ≤ length out.old) }
-    ensures puts { Puts out.old at (with_newline (0 ∷ matched_bytes (end ∷ total ∷ n ∷ take n positions.now)))
-        out.new result }
-    ensures positions_len { length positions.now ≡ slots }
+fn put_matched(out: &mut [u8], at: usize, found: Success, positions: &[u16]) -> usize
+    requires { (length positions.now ≤ most_glyphs) × (at + most_answer ≤ length out.old) }
+    ensures puts { Puts out.old at
+        (with_newline (0 ∷ matched_bytes (found.end ∷ found.total ∷ length positions.now ∷ positions.now))) out.new result }
     ensures upper_bound { result ≤ at + most_answer }
 {
     put_byte(out, at, 0);
-    put_half(out, at + 2, end);
-    put_half(out, at + 6, total as usize);
-    put_byte(out, at + 10, n as u8);
-    put_positions(out, at + 12, n, positions);
-    put_newline(out, at + 12 + 4 * n)
+    put_half(out, at + 2, found.end);
+    put_half(out, at + 6, found.total as usize);
+    put_byte(out, at + 10, positions.len() as u8);
+    put_positions(out, at + 12, positions);
+    put_newline(out, at + 12 + 4 * positions.len())
 }
 
-// As many positions as are counted and have a slot.
-fn counted(count: usize) -> usize
-    ensures { result ≡ min count slots }
+// The number of what is no match, and behind 04 the extent.
+fn put_no_match(out: &mut [u8], at: usize, no: NoMatch) -> usize
+    requires { at + most_answer ≤ length out.old }
+    ensures puts { Puts out.old at (with_newline (answer_bytes (input_reply (without no)))) out.new result }
+    ensures upper_bound { result ≤ at + most_answer }
 {
-    if count < SLOTS {
-        return count;
+    match no {
+        NoMatch::Refused(why) => put_number(out, at, why.into()),
+        NoMatch::Lost(extent) => put_extent(out, at, extent),
+        NoMatch::Ligature => put_number(out, at, 5),
     }
-    SLOTS
 }
 
-// What a match answers, and where it ends.
+// What a match answers, and where it ends: as many positions as are counted and have a slot.
 pub fn put_answer(out: &mut [u8], at: usize, m: InputMatch) -> usize
     requires { at + most_answer ≤ length out.old }
     ensures puts { Puts out.old at (with_newline (answer_bytes (input_reply m))) out.new result }
     ensures upper_bound { result ≤ at + most_answer }
 {
-    let answer = m.answer;
-    let positions = m.positions;
-    let n = counted(m.count);
-    match answer {
-        InputAnswer::Matched { end, total } => put_matched(out, at, end, total, n, &positions),
-        InputAnswer::Refused(why) => put_number(out, at, matching::refusal_number(why)),
-        InputAnswer::Lost(extent) => put_extent(out, at, extent),
-        InputAnswer::Ligature => put_number(out, at, 5),
+    match m.answer {
+        Ok(found) => put_matched(out, at, found, &m.positions[..m.count.min(SLOTS)]),
+        Err(no) => put_no_match(out, at, no),
     }
 }

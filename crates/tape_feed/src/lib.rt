@@ -1,6 +1,8 @@
 // What a line of the bench tape is answered, and a tape in pieces.
 #![tactic(auto)]
 
+mod kept;
+
 ghost use Rattle.std.specs.Prelude.{◌≡◌, ◌+◌, ◌-◌, ◌*◌, ◌≤◌, ◌<◌, length, take, drop};
 ghost use Rattle.glyph.specs.Glyph.{words};
 ghost use Rattle.tape_frame.specs.Decoding.{Bounded};
@@ -8,50 +10,39 @@ ghost use Rattle.tape_frame.specs.Put.{Puts};
 ghost use Rattle.tape_answer.specs.Answer.{answer_line};
 ghost use Rattle.tape_answer.specs.Asking.{asked};
 ghost use Rattle.tape_answer.specs.Line.{most_answer};
-ghost use Rattle.tape_answer.specs.Feeding.{most_kept, line_after, answer_at, bytes_taken, Feeds};
+ghost use Rattle.tape_answer.specs.Feeding.{line_after, answer_at, bytes_taken, Feeds};
+
+pub use kept::Kept;
 
 use matching::{InputMatch, Terms};
-use tape_answer::{Fed, MOST_ANSWER, MOST_KEPT, NEWLINE, Taken};
-use tape_frame::{Decoded, Head};
+use tape_answer::{Fed, MOST_ANSWER, NEWLINE};
+use tape_frame::{Head, Lists, MOST_VALUES, ROW};
 use verdict::Test;
 
 // What a line that isn't a frame is answered.
 const NO_FRAME: u8 = 255;
 
 // What input matching says of a frame, whose lists stand at the front of the slices. There are no mark sets.
-fn ask(
-    h: Head,
-    values: &[u32; tape_frame::MOST_VALUES],
-    done: &[u32; tape_frame::ROW],
-    coming: &[u32; tape_frame::ROW],
-) -> InputMatch
+fn ask(h: Head, lists: &Lists) -> InputMatch
     requires { Bounded h }
-    ensures { result ≡ asked h (take h.values values.now) (take (words * h.done) done.now)
-        (take (words * h.coming) coming.now) }
+    ensures { result ≡ asked h (take h.values lists.now.values) (take (words * h.done) lists.now.done)
+        (take (words * h.coming) lists.now.coming) }
 {
-    let n = h.values;
-    let d = h.done;
-    let c = h.coming;
-    let settings = h.settings;
     let lookup = Terms {
-        settings,
+        settings: h.settings,
         mask: h.mask,
         props: h.props,
     };
-    let sets = [0u16; 0];
-    let asked = &values[..];
-    let before = &done[..];
-    let text = &coming[..];
     matching_calls::match_input(
-        &before[0..glyph::WORDS * d],
-        d,
-        &text[0..glyph::WORDS * c],
-        c,
+        &lists.done[..glyph::WORDS * h.done],
+        h.done,
+        &lists.coming[..glyph::WORDS * h.coming],
+        h.coming,
         h.cursor,
         lookup,
-        &sets,
+        &[],
         Test::Equal,
-        &asked[0..n],
+        &lists.values[..h.values],
     )
 }
 
@@ -61,72 +52,50 @@ pub fn answer_line(line: &[u8], out: &mut [u8], at: usize) -> usize
     ensures puts { Puts out.old at (answer_line line.now) out.new result }
     ensures upper_bound { result ≤ at + most_answer }
 {
-    let mut values = [0u32; tape_frame::MOST_VALUES];
-    let mut done = [0u32; tape_frame::ROW];
-    let mut coming = [0u32; tape_frame::ROW];
-    match tape_decode::decode(line, &mut values, &mut done, &mut coming) {
-        Decoded::NoFrame => tape_answer::put_number(out, at, NO_FRAME),
-        Decoded::Frame(h) => {
-            let m = ask(h, &values, &done, &coming);
-            tape_answer::put_answer(out, at, m)
-        }
+    let mut lists = Lists {
+        values: [0; MOST_VALUES],
+        done: [0; ROW],
+        coming: [0; ROW],
+    };
+    match tape_decode::decode(line, &mut lists) {
+        Some(h) => tape_answer::put_answer(out, at, ask(h, &lists)),
+        None => tape_answer::put_number(out, at, NO_FRAME),
     }
 }
 
-// One byte of the tape: it ends the line, which is answered, or is kept, or only makes a long line longer.
-fn take_byte(kept: &mut [u8], n: usize, out: &mut [u8], m: usize, b: u8) -> Taken
-    requires { (n ≤ most_kept) × (length kept.old ≡ most_kept) × (m + most_answer ≤ length out.old) }
-    ensures kept_after { take result.kept kept.new ≡ line_after (take n kept.old) b }
-    ensures puts { Puts out.old m (answer_at (take n kept.old) b) out.new result.written }
-    ensures kept_le_most_kept { (result.kept ≤ most_kept) × (result.written ≤ length out.old) }
+// One byte of the tape: it ends the line, which is answered, or is kept, or only makes a long line longer. Where the answers end then.
+fn take_byte(kept: &mut Kept, out: &mut [u8], m: usize, b: u8) -> usize
+    requires { m + most_answer ≤ length out.old }
+    ensures kept_after { kept.new ≡ line_after kept.old b }
+    ensures puts { Puts out.old m (answer_at kept.old b) out.new result }
+    ensures within { result ≤ length out.old }
 {
     if b == NEWLINE {
-        let end = answer_line(&kept[0..n], out, m);
-        return Taken {
-            kept: 0,
-            written: end,
-        };
+        let end = answer_line(kept.bytes(), out, m);
+        kept.clear();
+        return end;
     }
-    if n < MOST_KEPT {
-        kept[n] = b;
-        return Taken {
-            kept: n + 1,
-            written: m,
-        };
-    }
-    Taken {
-        kept: n,
-        written: m,
-    }
+    kept.push(b);
+    m
 }
 
 // A piece of the tape from a place on, until it ends or `out` has no room for one more answer.
-pub fn feed(piece: &[u8], from: usize, kept: &mut [u8], n: usize, out: &mut [u8], m: usize) -> Fed
-    requires { (from < length piece.now) × (n ≤ most_kept) × (length kept.old ≡ most_kept) × (m + most_answer ≤ length out.old) }
-    ensures feeds { Feeds (bytes_taken (length out.old - m) (take n kept.old) (drop from piece.now)) from
-        (take n kept.old) out.old m result.at (take result.kept kept.new) out.new result.written }
-    ensures from_lt_at { (from < result.at) × (result.at ≤ length piece.now) × (result.kept ≤ most_kept) × (result.written ≤ length out.old) }
+pub fn feed(piece: &[u8], from: usize, kept: &mut Kept, out: &mut [u8], m: usize) -> Fed
+    requires { (from < length piece.now) × (m + most_answer ≤ length out.old) }
+    ensures feeds { Feeds (bytes_taken (length out.old - m) kept.old (drop from piece.now)) from
+        kept.old out.old m result.at kept.new out.new result.written }
+    ensures from_lt_at { (from < result.at) × (result.at ≤ length piece.now) × (result.written ≤ length out.old) }
     ensures out_len_bound { result.at < length piece.now → length out.old < result.written + most_answer }
 {
-    let mut at = from;
-    let mut held = n;
     let mut written = m;
-    while at < piece.len() {
+    for at in from..piece.len() {
         if out.len() - written < MOST_ANSWER {
-            return Fed {
-                at,
-                kept: held,
-                written,
-            };
+            return Fed { at, written };
         }
-        let t = take_byte(kept, held, out, written, piece[at]);
-        held = t.kept;
-        written = t.written;
-        at += 1;
+        written = take_byte(kept, out, written, piece[at]);
     }
     Fed {
-        at,
-        kept: held,
+        at: piece.len(),
         written,
     }
 }

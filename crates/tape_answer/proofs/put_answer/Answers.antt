@@ -1,32 +1,14 @@
--- Case by case, the bytes that the definition has. Assumes nothing.
-use Rattle.tape_answer.specs.LineLaws.{number_fits, extent_fits}
-use Rattle.tape_answer.specs.AnswerLaws.{reply_matched, reply_refused, reply_lost, reply_ligature}
+-- A match and no match: the bytes that the definition has. Assumes nothing.
+use Rattle.std.proofs.Common.{arith, length, length-take-le, take, ◌≡◌}
+use Rattle.tape_answer.specs.AnswerLaws.{reply_matched, reply_without}
 use Rattle.tape_answer.proofs.put_answer.Goals as goal
 
-pub returns-in-Matched : goal.returns-in-Matched
-returns-in-Matched c =
-    let a = c.args in
-    let p = c.put_matched.ensures in record {
-      puts = rw (reply_matched a.m _ _ c.counted-n.result c.in-Matched.is c.counted-n.ensures p.positions_len) p.puts;
-      upper_bound = p.upper_bound;
-    }
+pub returns-in-Ok-clause-puts : goal.returns-in-Ok-clause-puts
+returns-in-Ok-clause-puts c =
+    let m = c.args.m in
+    let n = c.min.result in
+    let size : length (take n m.positions) ≡ n = length-take-le n m.positions (omega arith) in
+    rw (reply_matched m c.in-Ok.found n c.in-Ok.is c.min.ensures (omega arith)) (rw size at c.put_matched.ensures.puts)
 
-pub returns-in-Refused : goal.returns-in-Refused
-returns-in-Refused c =
-    let a = c.args in
-    let p = c.put_number.ensures in record {
-      puts = rw (reply_refused a.m _ c.in-Refused.is, ← c.refusal_number.ensures) p;
-      upper_bound = number_fits _ _ _ p.ends;
-    }
-
-pub returns-in-Lost : goal.returns-in-Lost
-returns-in-Lost c =
-    let a = c.args in
-    let p = c.put_extent.ensures in
-    record { puts = rw (reply_lost a.m _ c.in-Lost.is) p; upper_bound = extent_fits _ _ _ p.ends }
-
-pub returns-in-Ligature : goal.returns-in-Ligature
-returns-in-Ligature c =
-    let a = c.args in
-    let p = c.put_number-in-Ligature.ensures in
-    record { puts = rw (reply_ligature a.m c.in-Ligature.is) p; upper_bound = number_fits _ _ _ p.ends }
+pub returns-in-Err-clause-puts : goal.returns-in-Err-clause-puts
+returns-in-Err-clause-puts c = rw (reply_without c.args.m c.in-Err.no c.in-Err.is) c.put_no_match.ensures.puts
