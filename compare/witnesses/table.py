@@ -165,7 +165,7 @@ def match_backtrack(coming, values=(7,), done=(), d=None, length=None, cursor=0,
     return said(call("matching_calls::match_backtrack", *there, terms(**lookup), sets, EQUAL, values))
 
 
-K1_ANSWER = "Matched { end: 2, total: 2 }, 2 at [0, 1]"
+K1_ANSWER = "Ok(Success { end: 2, total: 2 }), 2 at [0, 1]"
 
 # Marks of two components of ligature 1, and that ligature.
 MARKS_OF_TWO = [mark(5, lig=1, comp=1), mark(7, lig=1, comp=2)]
@@ -221,7 +221,7 @@ def run(
     places=None,
     count=None,
     end=LIMIT,
-    answer="Matched {{ end: {}, total: 0 }}",
+    answer="Ok(matching::Success {{ end: {}, total: 0 }})",
     sets=(),
     zwnj=False,
     zwj=False,
@@ -238,7 +238,7 @@ def run(
     places = range(idx, LIMIT) if places is None else places
     rows = f"[{call('begins', row(done), done_words)}, {call('ends', row(coming), coming_words)}]"
     words = [word for record in records for word in (record if isinstance(record, tuple) else [record])]
-    m = call("matched", f"matching::InputAnswer::{answer.format(end)}", len(places) if count is None else count, places)
+    m = call("matched", answer.format(end), len(places) if count is None else count, places)
     given = f"run::Given {{ zwnj: {rust(zwnj)}, zwj: {rust(zwj)}, syllables: {rust(syllables)}, mask: {mask} }}"
     return call(how, rows, d, idx, sets, book, words, m, given, allowance, depth)
 
@@ -331,16 +331,16 @@ TABLE = {
         "a_glyph_counts_as_three_words": (said("glyph::count(&[0; 12])"), "3", "4"),
         "a_pair_is_glyph_and_set": (said("glyph::in_set(&[3, 9], 3, 9)"), "true", "false"),
         "a_row_over_half_the_limit_is_refused": (
-            match_input([0] * (LIMIT // 2 + 1), [], length=1), "Matched { end: 1, total: 1 }, 1 at [0]", "Refused(Shape), 0 at []",
+            match_input([0] * (LIMIT // 2 + 1), [], length=1), "Ok(Success { end: 1, total: 1 }), 1 at [0]", "Err(Refused(Shape)), 0 at []",
         ),
         "a_row_over_the_limit_is_taken": (
-            match_input([0] * (LIMIT + 1), [], length=1), "Refused(Shape), 0 at []", "Matched { end: 1, total: 1 }, 1 at [0]",
+            match_input([0] * (LIMIT + 1), [], length=1), "Err(Refused(Shape)), 0 at []", "Ok(Success { end: 1, total: 1 }), 1 at [0]",
         ),
         "a_syllable_is_written_into_props": (
             call("written", "&mut [0; 4]", 0, "glyph::read(&[0, 0, 65536, 0], 0)"), "[0, 0, 65536, 0]", "[0, 0, 256, 0]",
         ),
         "an_odd_number_of_pairs_is_refused": (
-            match_input([5], [], sets=(3, 9)), "Matched { end: 1, total: 1 }, 1 at [0]", "Refused(Shape), 0 at []",
+            match_input([5], [], sets=(3, 9)), "Ok(Success { end: 1, total: 1 }), 1 at [0]", "Err(Refused(Shape)), 0 at []",
         ),
         "glyph_i_is_written_from_word_i_on": (
             call("written", "&mut [0; 8]", 1, "glyph::read(&[7, 0, 0, 0], 0)"), "[0, 0, 0, 0, 7, 0, 0, 0]", "[0, 7, 0, 0, 0, 0, 0, 0]",
@@ -397,10 +397,10 @@ TABLE = {
         ),
         "a_maybe_is_taken_for_a_yes": (is_value(7, test=NOTHING), "false", "true"),
         "a_maybe_that_fails_stops": (
-            match_input([5, glyph(9, flags=IGNORABLE), 7]), "Matched { end: 3, total: 2 }, 2 at [0, 2]", "Lost(2), 0 at []",
+            match_input([5, glyph(9, flags=IGNORABLE), 7]), "Ok(Success { end: 3, total: 2 }), 2 at [0, 2]", "Err(Lost(2)), 0 at []",
         ),
         "a_maybe_that_matches_is_passed_over": (
-            match_input([5, glyph(9, flags=IGNORABLE), 7], [9]), K1_ANSWER, "Lost(3), 0 at []",
+            match_input([5, glyph(9, flags=IGNORABLE), 7], [9]), K1_ANSWER, "Err(Lost(3)), 0 at []",
         ),
         "a_no_is_taken_for_a_yes": (is_value(9), "false", "true"),
         "a_skip_yes_glyph_stops": (forward([5, mark(9), 7], props=8), "Ok(Found(2))", "Ok(Stopped(2))"),
@@ -481,72 +481,72 @@ TABLE = {
         "the_plain_step_walks_backward": CONTRACT,
     },
     "ligature": {
-        "a_base_that_is_not_skipped_will_do": (match_input(MARKS_OF_TWO, done=[BASE_OF_MARKS]), "Ligature, 0 at []", K1_ANSWER),
-        "a_component_is_taken_for_the_base": (match_input(MARKS_OF_TWO, done=[BASE_OF_MARKS], props=4), K1_ANSWER, "Ligature, 0 at []"),
-        "a_later_glyph_may_have_another_component": (match_input(MARKS_OF_TWO), "Ligature, 0 at []", K1_ANSWER),
-        "an_attached_glyph_joins_a_first_of_no_ligature": (match_input([5, glyph(7, lig=1, comp=1)]), "Ligature, 0 at []", K1_ANSWER),
+        "a_base_that_is_not_skipped_will_do": (match_input(MARKS_OF_TWO, done=[BASE_OF_MARKS]), "Err(Ligature), 0 at []", K1_ANSWER),
+        "a_component_is_taken_for_the_base": (match_input(MARKS_OF_TWO, done=[BASE_OF_MARKS], props=4), K1_ANSWER, "Err(Ligature), 0 at []"),
+        "a_later_glyph_may_have_another_component": (match_input(MARKS_OF_TWO), "Err(Ligature), 0 at []", K1_ANSWER),
+        "an_attached_glyph_joins_a_first_of_no_ligature": (match_input([5, glyph(7, lig=1, comp=1)]), "Err(Ligature), 0 at []", K1_ANSWER),
         "the_rows_first_glyph_is_taken_for_the_base": (
-            match_input(MARKS_OF_TWO, done=[2, BASE_OF_MARKS], props=4), K1_ANSWER, "Ligature, 0 at []",
+            match_input(MARKS_OF_TWO, done=[2, BASE_OF_MARKS], props=4), K1_ANSWER, "Err(Ligature), 0 at []",
         ),
         "the_search_goes_past_another_id": (
-            match_input(MARKS_OF_TWO, done=[glyph(2, props=LIGATURE, lig=2)], props=4), "Ligature, 0 at []", K1_ANSWER,
+            match_input(MARKS_OF_TWO, done=[glyph(2, props=LIGATURE, lig=2)], props=4), "Err(Ligature), 0 at []", K1_ANSWER,
         ),
-        "where_no_base_is_found_any_glyph_joins": (match_input(MARKS_OF_TWO), "Ligature, 0 at []", K1_ANSWER),
+        "where_no_base_is_found_any_glyph_joins": (match_input(MARKS_OF_TWO), "Err(Ligature), 0 at []", K1_ANSWER),
     },
     "matching": {
         "a_cursor_past_the_end_is_refused_by_1": (tape(frame([5], cursor=1)), "02", "01"),
-        "every_match_has_one_reply": (match_input([5, 7]), K1_ANSWER, "Lost(1), 0 at [] and an unused slot filled"),
+        "every_match_has_one_reply": (match_input([5, 7]), K1_ANSWER, "Err(Lost(1)), 0 at [] and an unused slot filled"),
         "number_4_is_taken_for_a_success": (
             desk_k11(number=4), "7, spent 0, d 0, idx 0, 0 at []", f"0, spent 1, d 4, idx {LIMIT}, 4 at [0, 1, 2, 3]",
         ),
-        "the_cursor_glyph_is_tested": (match_input([5, 7]), K1_ANSWER, "Lost(1), 0 at []"),
+        "the_cursor_glyph_is_tested": (match_input([5, 7]), K1_ANSWER, "Err(Lost(1)), 0 at []"),
         "the_end_is_the_texts": (
-            match_input([5, 7, 9]), K1_ANSWER, "Matched { end: 3, total: 2 }, 2 at [0, 1]",
+            match_input([5, 7, 9]), K1_ANSWER, "Ok(Success { end: 3, total: 2 }), 2 at [0, 1]",
         ),
-        "the_ligature_refusal_has_an_extent": (match_input(MARKS_OF_TWO), "Ligature, 0 at []", "Lost(2), 0 at []"),
-        "the_rule_is_asked_of_the_cursors_glyph": (match_input(MARKS_OF_TWO), "Ligature, 0 at []", K1_ANSWER),
+        "the_ligature_refusal_has_an_extent": (match_input(MARKS_OF_TWO), "Err(Ligature), 0 at []", "Err(Lost(2)), 0 at []"),
+        "the_rule_is_asked_of_the_cursors_glyph": (match_input(MARKS_OF_TWO), "Err(Ligature), 0 at []", K1_ANSWER),
         "the_total_forgets_the_cursors_count": (
-            match_input([5], []), "Matched { end: 1, total: 1 }, 1 at [0]", "Matched { end: 1, total: 0 }, 1 at [0]",
+            match_input([5], []), "Ok(Success { end: 1, total: 1 }), 1 at [0]", "Ok(Success { end: 1, total: 0 }), 1 at [0]",
         ),
         "the_total_takes_the_cursors_count_in_ligation": (
-            match_input([glyph(5, count=2)], []), "Matched { end: 1, total: 2 }, 1 at [0]", "Matched { end: 1, total: 1 }, 1 at [0]",
+            match_input([glyph(5, count=2)], []), "Ok(Success { end: 1, total: 2 }), 1 at [0]", "Ok(Success { end: 1, total: 1 }), 1 at [0]",
         ),
     },
     "matching_context": {
-        "backtrack_answers_how_many_values_matched": (match_backtrack([5], done=[7]), "Matched(0)", "Matched(1)"),
-        "backtrack_has_the_input_matcher": (match_backtrack([5], done=[glyph(7, mask=2)], mask=1), "Matched(0)", "Lost(0)"),
-        "backtrack_runs_out_with_an_extent_of_1": (match_backtrack([5]), "Lost(0)", "Lost(1)"),
-        "lookahead_counts_a_stop_in_its_part": (match_lookahead([5, 6], 1), "Lost(2)", "Lost(1)"),
-        "lookahead_counts_its_end_in_its_part": (match_lookahead([5, 7], 1), "Matched(2)", "Matched(1)"),
-        "lookahead_counts_running_out_in_its_part": (match_lookahead([5, 7], 1, [7, 7]), "Lost(2)", "Lost(1)"),
-        "lookahead_has_the_input_matcher": (match_lookahead([5, glyph(7, mask=2)], 1, mask=1), "Matched(2)", "Lost(2)"),
-        "lookahead_starts_one_late": (match_lookahead([5, 7], 1), "Matched(2)", "Lost(2)"),
-        "the_backward_row_of_gpos_is_done": (match_backtrack([7, 5], cursor=1, gpos=True), "Matched(0)", "Lost(0)"),
+        "backtrack_answers_how_many_values_matched": (match_backtrack([5], done=[7]), "Ok(0)", "Ok(1)"),
+        "backtrack_has_the_input_matcher": (match_backtrack([5], done=[glyph(7, mask=2)], mask=1), "Ok(0)", "Err(Lost(0))"),
+        "backtrack_runs_out_with_an_extent_of_1": (match_backtrack([5]), "Err(Lost(0))", "Err(Lost(1))"),
+        "lookahead_counts_a_stop_in_its_part": (match_lookahead([5, 6], 1), "Err(Lost(2))", "Err(Lost(1))"),
+        "lookahead_counts_its_end_in_its_part": (match_lookahead([5, 7], 1), "Ok(2)", "Ok(1)"),
+        "lookahead_counts_running_out_in_its_part": (match_lookahead([5, 7], 1, [7, 7]), "Err(Lost(2))", "Err(Lost(1))"),
+        "lookahead_has_the_input_matcher": (match_lookahead([5, glyph(7, mask=2)], 1, mask=1), "Ok(2)", "Err(Lost(2))"),
+        "lookahead_starts_one_late": (match_lookahead([5, 7], 1), "Ok(2)", "Err(Lost(2))"),
+        "the_backward_row_of_gpos_is_done": (match_backtrack([7, 5], cursor=1, gpos=True), "Ok(0)", "Err(Lost(0))"),
     },
     "matching_refuse": {
-        "a_start_of_1_is_refused_by_6": (match_lookahead([5, 7], 1), "Matched(2)", "Refused(Start)"),
-        "context_refuses_64_values": (match_backtrack([5], [7] * 64), "Lost(0)", "Refused(Values)"),
-        "everything_is_refused": (match_input([5, 7]), K1_ANSWER, "Refused(Shape), 0 at []"),
-        "input_takes_64_values": (match_input([5], [7] * 64), "Refused(Values), 0 at []", "Lost(1), 0 at []"),
+        "a_start_of_1_is_refused_by_6": (match_lookahead([5, 7], 1), "Ok(2)", "Err(Refused(Start))"),
+        "context_refuses_64_values": (match_backtrack([5], [7] * 64), "Err(Lost(0))", "Err(Refused(Values))"),
+        "everything_is_refused": (match_input([5, 7]), K1_ANSWER, "Err(Refused(Shape)), 0 at []"),
+        "input_takes_64_values": (match_input([5], [7] * 64), "Err(Refused(Values)), 0 at []", "Err(Lost(1)), 0 at []"),
         "the_cursor_is_tested_before_the_shape": (
-            match_input([5], length=2, cursor=2), "Refused(Shape), 0 at []", "Refused(Cursor), 0 at []",
+            match_input([5], length=2, cursor=2), "Err(Refused(Shape)), 0 at []", "Err(Refused(Cursor)), 0 at []",
         ),
     },
     "matching_calls": {
-        "backtrack_takes_len_for_d": (match_backtrack([5, 6], done=[7, 8], d=1), "Matched(0)", "Lost(0)"),
+        "backtrack_takes_len_for_d": (match_backtrack([5, 6], done=[7, 8], d=1), "Ok(0)", "Err(Lost(0))"),
         "backtrack_takes_syllable_0_for_the_cursors": (
-            match_backtrack([glyph(5, syllable=1)], done=[glyph(7, syllable=2)], syllables=True), "Lost(0)", "Matched(0)",
+            match_backtrack([glyph(5, syllable=1)], done=[glyph(7, syllable=2)], syllables=True), "Err(Lost(0))", "Ok(0)",
         ),
-        "input_goes_past_len": (match_input([5, 7], length=1), "Lost(1), 0 at []", K1_ANSWER),
-        "lookahead_goes_past_len": (match_lookahead([5, 7], 1, length=1), "Lost(1)", "Matched(2)"),
+        "input_goes_past_len": (match_input([5, 7], length=1), "Err(Lost(1)), 0 at []", K1_ANSWER),
+        "lookahead_goes_past_len": (match_lookahead([5, 7], 1, length=1), "Err(Lost(1))", "Ok(2)"),
         "lookahead_takes_syllable_0_for_the_cursors": (
-            match_lookahead([glyph(5, syllable=1), glyph(7, syllable=2)], 1, syllables=True), "Lost(2)", "Matched(2)",
+            match_lookahead([glyph(5, syllable=1), glyph(7, syllable=2)], 1, syllables=True), "Err(Lost(2))", "Ok(2)",
         ),
         "slots_stay_filled_after_a_refusal": (
-            match_input([5], cursor=1), "Refused(Cursor), 0 at []", "Refused(Cursor), 0 at [] and an unused slot filled",
+            match_input([5], cursor=1), "Err(Refused(Cursor)), 0 at []", "Err(Refused(Cursor)), 0 at [] and an unused slot filled",
         ),
         "the_search_for_a_base_goes_past_d": (
-            match_input([glyph(5, lig=1, comp=1), glyph(7, lig=1, comp=2)], done=[mark(2, lig=1)], d=0, props=8), "Ligature, 0 at []", K1_ANSWER,
+            match_input([glyph(5, lig=1, comp=1), glyph(7, lig=1, comp=2)], done=[mark(2, lig=1)], d=0, props=8), "Err(Ligature), 0 at []", K1_ANSWER,
         ),
     },
     "text": {
@@ -801,7 +801,7 @@ TABLE = {
         "a_long_book_is_refused_before_the_limits": (
             k11(book=[0] * 4097, depth=65), "refused for its Limits, no word changed", "refused for its Book, no word changed",
         ),
-        "a_lost_match_is_run": (k11(answer="Lost({})"), "refused for its Match, no word changed", K11_ANSWER),
+        "a_lost_match_is_run": (k11(answer="Err(matching::NoMatch::Lost({}))"), "refused for its Match, no word changed", K11_ANSWER),
         "an_unreadable_book_is_a_bad_match": (
             k11(book=[0]), "refused for its Book, no word changed", "refused for its Match, no word changed",
         ),
