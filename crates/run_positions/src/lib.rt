@@ -25,10 +25,10 @@ pub fn repair(lv: Slots, i: usize, old: usize, new: usize) -> Slots
     ensures { result ≡ shown (repaired i old new (level_of lv)) }
 {
     if old < new {
-        return Own { lv, i }.grown(new - old);
+        return Own { lv: &lv, i }.grown(new - old);
     }
     if new < old {
-        return Own { lv, i }.shrunk(old - new);
+        return Own { lv: &lv, i }.shrunk(old - new);
     }
     lv
 }
@@ -50,18 +50,18 @@ fn filled<F: Fn(usize) -> u16>(count: usize, slot: F) -> [u16; SLOTS]
 
 // A record's own position: it is number i of a level, whose positions are places of a text.
 #[derive(Clone, Copy)]
-struct Own {
-    lv: Slots,
+struct Own<'a> {
+    lv: &'a Slots,
     i: usize,
-    ghost placed: { Placed lv.at lv.count },
-    ghost inside: { i < lv.count },
+    ghost placed: { Placed lv.now.at lv.now.count },
+    ghost inside: { i < lv.now.count },
 }
 
-impl Own {
+impl Own<'_> {
     #[tactic(auto, unfolding(glyph::specs::Glyph::limit))]
-    fn grown(self, n: usize) -> Slots
-        requires { (self.lv.end + n ≤ limit) × Neat self.lv }
-        ensures { result ≡ shown (grown_by self.i n (level_of self.lv)) }
+    fn grown(&self, n: usize) -> Slots
+        requires { (self.now.lv.now.end + n ≤ limit) × Neat self.now.lv.now }
+        ensures { result ≡ shown (grown_by self.now.i n (level_of self.now.lv.now)) }
     {
         let end = self.lv.end + n;
         if self.lv.count + n <= SLOTS {
@@ -70,19 +70,19 @@ impl Own {
                 end,
                 count: self.lv.count + n,
                 at,
-                ..self.lv
+                ..*self.lv
             };
         }
         Slots {
             live: false,
             end,
-            ..self.lv
+            ..*self.lv
         }
     }
 
-    fn shrunk(self, n: usize) -> Slots
-        requires { get_or self.lv.at self.i 0 ≤ self.lv.end }
-        ensures { result ≡ shown (shrunk_by self.i n (level_of self.lv)) }
+    fn shrunk(&self, n: usize) -> Slots
+        requires { get_or self.now.lv.now.at self.now.i 0 ≤ self.now.lv.now.end }
+        ensures { result ≡ shown (shrunk_by self.now.i n (level_of self.now.lv.now)) }
     {
         let own = self.lv.at[self.i] as usize;
         let back = n.min(self.lv.end - own);
@@ -92,15 +92,15 @@ impl Own {
             end: self.lv.end - back,
             count: self.lv.count - gone,
             at,
-            ..self.lv
+            ..*self.lv
         }
     }
 
     // Position j after a gain of n here.
     #[tactic(auto, using(crate::specs::Laws::gains), unfolding(glyph::specs::Glyph::limit))]
     fn gained(&self, n: usize, j: usize) -> u16
-        requires { (self.now.lv.count + n ≤ 64) × (j < self.now.lv.count + n) }
-        ensures { result ≡ get_or (with_gain self.now.i n (take self.now.lv.count self.now.lv.at)) j 0 }
+        requires { (self.now.lv.now.count + n ≤ 64) × (j < self.now.lv.now.count + n) }
+        ensures { result ≡ get_or (with_gain self.now.i n (take self.now.lv.now.count self.now.lv.now.at)) j 0 }
     {
         let at = &self.lv.at;
         if j <= self.i {
@@ -115,8 +115,8 @@ impl Own {
     // Position j after a loss of n after this one.
     #[tactic(auto, using(crate::specs::Laws::losses))]
     fn lost(&self, n: usize, j: usize) -> u16
-        requires { (n ≤ self.now.lv.count - (self.now.i + 1)) × (j < self.now.lv.count - n) }
-        ensures { result ≡ get_or (with_loss self.now.i n (take self.now.lv.count self.now.lv.at)) j 0 }
+        requires { (n ≤ self.now.lv.now.count - (self.now.i + 1)) × (j < self.now.lv.now.count - n) }
+        ensures { result ≡ get_or (with_loss self.now.i n (take self.now.lv.now.count self.now.lv.now.at)) j 0 }
     {
         let at = &self.lv.at;
         if self.i < j {

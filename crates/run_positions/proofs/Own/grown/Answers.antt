@@ -8,8 +8,8 @@ use Rattle.run_positions.proofs.Own.grown.Goals as goal
 
 pub returns-then-self-n-le-SLOTS : goal.returns-then-self-n-le-SLOTS
 returns-then-self-n-le-SLOTS c =
-    let o = c.args.self in
-    let lv = o.lv in
+    let o = c.args.self.now in
+    let lv = o.lv.now in
     let n = c.args.n in
     let L : List ℕ = with_gain o.i n (take lv.count lv.at) in
     let long = gain_long lv.at lv.count o.i n o.placed o.inside in
@@ -21,5 +21,5 @@ returns-then-self-n-le-SLOTS c =
 
 pub returns : goal.returns
 returns c =
-    let o = c.args.self in
-    grown_stops o.lv o.i c.args.n o.placed o.inside c.requires.1 c.if-self-n-le-SLOTS.false
+    let o = c.args.self.now in
+    grown_stops o.lv.now o.i c.args.n o.placed o.inside c.requires.1 c.if-self-n-le-SLOTS.false

@@ -8,8 +8,8 @@ use Rattle.run_positions.proofs.Own.shrunk.Goals as goal
 
 pub returns : goal.returns
 returns c =
-    let o = c.args.self in
-    let lv = o.lv in
+    let o = c.args.self.now in
+    let lv = o.lv.now in
     let n : ℕ = c.min-gone.result in
     let L : List ℕ = with_loss o.i n (take lv.count lv.at) in
     let few : n ≤ lv.count - (o.i + 1) = omega (arith, c.min-gone.ensures) in
