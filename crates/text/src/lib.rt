@@ -1,5 +1,5 @@
 // A text in two rows: `done` holds its first d glyphs, `coming` ends with the others, from glyph idx on. The cursor stands between them.
-#![tactic(auto, using(std::proofs::lemmas::Bool::Decides::nat_tests, crate::specs::Laws::sizes), unfolding(glyph::specs::Glyph::limit))]
+#![tactic(auto, using(std::proofs::lemmas::Bool::Decides::nat_tests, crate::proofs::Rows::row_sizes), unfolding(glyph::specs::Glyph::limit))]
 
 ghost use Rattle.std.specs.Prelude.{◌≡◌, [], ◌∷◌, ◌+◌, ◌≤◌, ◌<◌, length, get_or, set};
 ghost use Rattle.glyph.specs.Glyph.{limit, glyphs_of, blank};

@@ -1,22 +1,9 @@
 -- After k turns the first k copies stand from glyph d on; after all they are the replaced text. Assumes nothing.
-use Rattle.std.proofs.Common.{arith, get_or, length, refl, ◌∙◌, ◌≡◌}
-use Rattle.std.proofs.Math.Seq.{paste-zero}
+use Rattle.std.proofs.Common.{arith, get_or, length, ◌∙◌, ◌≡◌}
 use Rattle.glyph.specs.Glyph.{glyphs_of, blank}
-use Rattle.glyph.specs.Laws.{length_same}
-use Rattle.text.specs.Text.{copies, written}
+use Rattle.text.specs.Text.{written}
 use Rattle.text.specs.Laws.{sizes, copies_more, replaced_is}
 use Rattle.text.proofs.replace_many.Goals as goal
-
-pub loop-k-init : goal.loop-k-init
-loop-k-init c =
-    let a = c.args in
-    record { kept = refl; made = paste-zero (glyphs_of a.done.now) a.s.d (copies a.ids.now (get_or (glyphs_of a.coming.now) a.s.idx blank)) }
-
-pub write-requires : goal.write-requires
-write-requires c =
-    let z = sizes c.args.done.now c.args.coming.now c.args.s c.requires.0 in
-    let l = c.loop-k in
-    omega (arith, length_same l.done c.args.done.now l.invariant.kept)
 
 pub loop-k-preserved : goal.loop-k-preserved
 loop-k-preserved c =
