@@ -54,10 +54,10 @@ pub struct Index {
 pub fn find_in(words: &[u16], starts: &[u16; LOOKUPS], count: usize, k: usize) -> Option<Entry>
     ensures { result ≡ found_in words.now starts.now count k }
 {
-    if count <= k || LOOKUPS <= k {
+    if count <= k {
         return None;
     }
-    entry_at(words, starts[k] as usize)
+    entry_at(words, *starts.get(k)? as usize)
 }
 
 // How many words the lookup that begins at `at` takes, where one does.
@@ -81,22 +81,17 @@ pub fn is_chain(e: Entry) -> bool
 fn entry_at(words: &[u16], at: usize) -> Option<Entry>
     ensures { result ≡ entry_at words.now at }
 {
-    if words.len() < at || words.len() - at < 4 {
+    let &[kind, low, high, size, ..] = words.get(at..)? else {
         return None;
-    }
+    };
     let a = at + 4;
-    let size = words[at + 3] as usize;
-    if words.len() - a < size {
-        return None;
-    }
-    let props = words[at + 1] as u32 + 65536 * (words[at + 2] as u32);
-    kind_at(&words[..a + size], words[at], props, a)
+    let props = low as u32 + 65536 * (high as u32);
+    kind_at(words.get(..a + size as usize)?, kind, props, a)
 }
 
 // The lookup of a kind whose body begins at `a` and ends where the words end. The kinds' numbers are the book's own format.
 #[tactic(auto, using(std::proofs::lemmas::Bool::Decides::nat_tests), unfolding(crate::specs::Places::kind_at))]
 fn kind_at(words: &[u16], kind: u16, props: u32, a: usize) -> Option<Entry>
-    requires { a ≤ length words.now }
     ensures { result ≡ kind_at words.now kind props a }
 {
     match kind {
@@ -109,46 +104,35 @@ fn kind_at(words: &[u16], kind: u16, props: u32, a: usize) -> Option<Entry>
 
 #[tactic(auto, using(std::proofs::lemmas::Bool::Decides::nat_tests), unfolding(crate::specs::Places::one_at))]
 fn one_at(words: &[u16], props: u32, a: usize) -> Option<Entry>
-    requires { a ≤ length words.now }
     ensures { result ≡ one_at words.now props a }
 {
-    if words.len() - a != 2 {
+    let &[from, to] = words.get(a..)? else {
         return None;
-    }
+    };
     Some(Entry::One {
         props,
-        from: words[a] as u32,
-        to: words[a + 1] as u32,
+        from: from as u32,
+        to: to as u32,
     })
 }
 
 #[tactic(auto, using(std::proofs::lemmas::Bool::Decides::nat_tests), unfolding(crate::specs::Places::many_at))]
 fn many_at(words: &[u16], props: u32, a: usize) -> Option<Entry>
-    requires { a ≤ length words.now }
     ensures { result ≡ many_at words.now props a }
 {
-    if words.len() <= a {
-        return None;
-    }
+    let from = *words.get(a)? as u32;
     let ids = counted_at(words, a + 1, 1, IDS)?;
     if ids.to < words.len() {
         return None;
     }
-    Some(Entry::Many {
-        props,
-        from: words[a] as u32,
-        ids,
-    })
+    Some(Entry::Many { props, from, ids })
 }
 
 #[tactic(auto, using(std::proofs::lemmas::Bool::Decides::nat_tests), unfolding(crate::specs::Places::chain_at))]
 fn chain_at(words: &[u16], props: u32, a: usize) -> Option<Entry>
-    requires { a ≤ length words.now }
     ensures { result ≡ chain_at words.now props a }
 {
-    if words.len() <= a {
-        return None;
-    }
+    let first = *words.get(a)? as u32;
     let backtrack = counted_at(words, a + 1, 1, SIDE)?;
     let input = counted_at(words, backtrack.to, 1, INPUT)?;
     let lookahead = counted_at(words, input.to, 1, SIDE)?;
@@ -159,7 +143,7 @@ fn chain_at(words: &[u16], props: u32, a: usize) -> Option<Entry>
     Some(Entry::Chain {
         props,
         parts: ChainParts {
-            first: words[a] as u32,
+            first,
             backtrack,
             input,
             lookahead,
@@ -174,10 +158,7 @@ fn counted_at(words: &[u16], x: usize, each: usize, most: usize) -> Option<Part>
     requires { each ≤ 2 }
     ensures { result ≡ counted_at words.now x each most }
 {
-    if words.len() <= x {
-        return None;
-    }
-    let n = words[x] as usize;
+    let n = *words.get(x)? as usize;
     let from = x + 1;
     let size = each * n;
     if most < n || words.len() - from < size {
