@@ -495,6 +495,8 @@ TABLE = {
     },
     "matching": {
         "a_cursor_past_the_end_is_refused_by_1": (tape(frame([5], cursor=1)), "02", "01"),
+        "a_refused_context_is_lost": (match_lookahead([5], 1, length=1, cursor=1), "Err(Refused(Cursor))", "Err(Lost(2))"),
+        "a_refused_input_is_lost": (match_input([5], length=1, cursor=1), "Err(Refused(Cursor)), 0 at []", "Err(Lost(2)), 0 at []"),
         "every_match_has_one_reply": (match_input([5, 7]), K1_ANSWER, "Err(Lost(1)), 0 at [] and an unused slot filled"),
         "number_4_is_taken_for_a_success": (
             desk_k11(number=4), "7, spent 0, d 0, idx 0, 0 at []", f"0, spent 1, d 4, idx {LIMIT}, 4 at [0, 1, 2, 3]",
