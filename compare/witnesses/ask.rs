@@ -9,20 +9,19 @@ fn charged(c: allowance::Charged) -> String {
 }
 
 fn lookups(words: &[u16]) -> String {
-    let index = book_index::index_of(words);
-    if !index.reads {
+    let Some(index) = book_index::index_of(words) else {
         return "doesn't read".to_string();
-    }
+    };
     let lookup = |k| match book::find_in(words, &index.starts, index.count, k) {
-        book::Entry::One { props, from, to } => format!("props {props}, {from} to {to}"),
-        book::Entry::Many { props, from, ids } => {
+        Some(book::Entry::One { props, from, to }) => format!("props {props}, {from} to {to}"),
+        Some(book::Entry::Many { props, from, ids }) => {
             format!("props {props}, {from} to {:?}", &words[ids.from..ids.to])
         }
-        book::Entry::Chain { props, parts } => {
+        Some(book::Entry::Chain { props, parts }) => {
             let records = &words[parts.records.from..parts.records.to];
             format!("props {props}, a chain on {}, records {records:?}", parts.first)
         }
-        book::Entry::Missing => "missing".to_string(),
+        None => "missing".to_string(),
     };
     (0..index.count).map(lookup).collect::<Vec<_>>().join("; ")
 }
