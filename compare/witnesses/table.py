@@ -470,7 +470,7 @@ TABLE = {
     "walker": {  # its steps are proved by hand, and there an edit can change only the contract (docs/DECISIONS.md)
         "a_new_walker_stands_at_the_rows_start": CONTRACT,
         "a_walker_that_was_stopped_goes_to_the_extent": (
-            said(f"walker::follow(walker::new({rust(row([5, 5]))}, 0), Ok(walk::Walked::Stopped(2))).place"), "0", "2",
+            said(f"walker::Walker::new({rust(row([5, 5]))}, 0).follow(Ok(walk::Walked::Stopped(2))).place"), "0", "2",
         ),
         "follow_leaves_the_walker_where_it_stood": CONTRACT,
         "next_walks_backward": CONTRACT,

@@ -1,4 +1,5 @@
-// The walks: forward and backward over a row, to the next glyph that isn't passed over.
+// The walks: forward and backward over a row, to the next glyph that isn't passed over. Matcher, sign, lists, syllable and sets are parameters, each
+// one of the definition's; `verdict_match` says why they are no struct.
 #![tactic(auto)]
 
 ghost use Rattle.std.specs.Prelude.{◌≡◌, [], ◌-◌, ◌≤◌, max, length};

@@ -1,5 +1,5 @@
-// A walker keeps the row that it walks and the place where it stands, as the original's `SkippingIterator` does. It goes by value: a step takes it
-// apart, calls the walk and answers, and `follow` is the walker that went there.
+// A walker keeps the row that it walks and the place where it stands, as the original's `SkippingIterator` does, and nothing else: what a step asks
+// (matcher, sign, syllable, sets) is handed to each, as to a walk. It goes by value: a step answers, and `follow` is the walker that went there.
 #![tactic(auto)]
 
 ghost use Rattle.std.specs.Prelude.{◌≡◌, []};
@@ -17,63 +17,56 @@ pub struct Walker<'a> {
     pub place: usize,
 }
 
-// A walker that stands at a place of a row.
-pub fn new<'a>(row: &'a [u32], place: usize) -> Walker<'a>
-    ensures { result ≡ standing row.entry place }
-{
-    Walker { row, place }
-}
-
-// The same row, from another place.
-pub fn reset<'a>(w: Walker<'a>, place: usize) -> Walker<'a>
-    ensures { result ≡ standing w.entry.row place }
-{
-    Walker { row: w.row, place }
-}
-
-// Forward from where the walker stands, in a row of which the first len glyphs count.
-pub fn next<'a>(
-    w: Walker<'a>,
-    len: usize,
-    m: Matcher,
-    sign: Sign,
-    syllable: u8,
-    sets: &[u16],
-) -> Result<Walked, IllShaped>
-    ensures { result ≡ forward_of w.entry.row.now len w.entry.place m (value_of sign []) syllable sets.now }
-{
-    walk::forward(w.row, len, w.place, m, sign, syllable, sets)
-}
-
-// Backward from where the walker stands.
-pub fn prev<'a>(
-    w: Walker<'a>,
-    m: Matcher,
-    sign: Sign,
-    syllable: u8,
-    sets: &[u16],
-) -> Result<Walked, IllShaped>
-    ensures { result ≡ backward_of w.entry.row.now w.entry.place m (value_of sign []) syllable sets.now }
-{
-    walk::backward(w.row, w.place, m, sign, syllable, sets)
-}
-
-// The walker after a step with this answer: at the place found, and else where it stood.
-pub fn follow<'a>(w: Walker<'a>, walked: Result<Walked, IllShaped>) -> Walker<'a>
-    ensures { result ≡ standing w.entry.row (place_after w.entry.place walked) }
-{
-    Walker {
-        row: w.row,
-        place: place_after(w.place, walked),
+impl<'a> Walker<'a> {
+    // A walker that stands at a place of a row.
+    pub fn new(row: &'a [u32], place: usize) -> Self
+        ensures { result ≡ standing row.entry place }
+    {
+        Walker { row, place }
     }
-}
 
-fn place_after(place: usize, walked: Result<Walked, IllShaped>) -> usize
-    ensures { result ≡ place_after place walked }
-{
-    match walked {
-        Ok(Walked::Found(q)) => q,
-        _ => place,
+    // The same row, from another place.
+    pub fn reset(self, place: usize) -> Self
+        ensures { result ≡ standing self.entry.row place }
+    {
+        Walker::new(self.row, place)
+    }
+
+    // Forward from where the walker stands, in a row of which the first len glyphs count.
+    pub fn next(
+        self,
+        len: usize,
+        m: Matcher,
+        sign: Sign,
+        syllable: u8,
+        sets: &[u16],
+    ) -> Result<Walked, IllShaped>
+        ensures { result ≡ forward_of self.entry.row.now len self.entry.place m (value_of sign []) syllable sets.now }
+    {
+        walk::forward(self.row, len, self.place, m, sign, syllable, sets)
+    }
+
+    // Backward from where the walker stands.
+    pub fn prev(
+        self,
+        m: Matcher,
+        sign: Sign,
+        syllable: u8,
+        sets: &[u16],
+    ) -> Result<Walked, IllShaped>
+        ensures { result ≡ backward_of self.entry.row.now self.entry.place m (value_of sign []) syllable sets.now }
+    {
+        walk::backward(self.row, self.place, m, sign, syllable, sets)
+    }
+
+    // The walker after a step with this answer: at the place found, and else where it stood.
+    pub fn follow(self, walked: Result<Walked, IllShaped>) -> Self
+        ensures { result ≡ standing self.entry.row (place_after self.entry.place walked) }
+    {
+        match walked {
+            Ok(Walked::Found(q)) => self.reset(q),
+            _ => self,
+        }
     }
 }
 
@@ -89,7 +82,7 @@ pub fn step(
 ) -> Result<Walked, IllShaped>
     ensures { result ≡ forward_of row.now len place m (value_of sign []) syllable sets.now }
 {
-    next(new(row, place), len, m, sign, syllable, sets)
+    Walker::new(row, place).next(len, m, sign, syllable, sets)
 }
 
 // The match after n others (after none: the first), a step each; or the answer of the first step that finds none.
