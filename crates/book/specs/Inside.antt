@@ -1,9 +1,9 @@
 -- The parts that the code finds lie within the words and keep the limits, so that the words up to their end show the same.
-use Rattle.std.specs.Prelude.{◌≡◌, refl, Bool, true, false, cond, List, [], ◌∷◌, ℕ, zero, suc, ◌+◌, ◌-◌, ◌*◌, ◌≤◌, eqb, leb, ltb, length, take, drop}
+use Rattle.std.specs.Prelude.{◌≡◌, refl, Bool, true, false, cond, List, ℕ, ◌+◌, ◌-◌, ◌*◌, ◌≤◌, eqb, leb, ltb, length, take}
 use Rattle.std.specs.Prelude.{Option, Some, None, IfSome}
-use Rattle.std.proofs.Common.{sym, ap, ◌∙◌, mul-le-mul_left, zero-add, suc-add, arith, ltb-true, leb-true, take-take, length-take, length-drop}
+use Rattle.std.proofs.Common.{mul-le-mul_left, arith, ltb-true, leb-true, take-take, length-take, length-drop}
 use Rattle.std.proofs.Math.ListN.{get_or}
-use Rattle.std.proofs.Math.Seq.{take-nil}
+use Rattle.std.proofs.lemmas.List.{drop-take}
 use Rattle.book.specs.declared.Part.{Part}
 use Rattle.book.specs.declared.ChainParts.{ChainParts}
 use Rattle.book.specs.declared.Entry.{Entry}
@@ -125,15 +125,10 @@ part_few ws n most p i = simp (length-take, length-drop) (omega (arith, i.few))
 
 -- ---- the words up to the end of a part show the part
 
-pub slid : (f n : ℕ) (l : List ℕ) → take n (drop f l) ≡ drop f (take (f + n) l)
-slid zero n l = rw (zero-add n)
-slid (suc f) n [] = take-nil n ∙ sym (ap (drop (suc f)) (take-nil (suc f + n)))
-slid (suc f) n (x ∷ l) = rw (suc-add f n) (slid f n l)
-
 part_front : (ws : List ℕ) (k : ℕ) (most : ℕ) (p : Part) → PartInside k most p → part_of (take k ws) p ≡ part_of ws p
 part_front ws k most p i =
     let e : p.from + (p.to - p.from) ≡ p.to = omega (arith, i.ordered) in
-    rw (slid p.from (p.to - p.from) (take k ws), slid p.from (p.to - p.from) ws, e, take-take p.to k ws i.within)
+    rw (← drop-take p.from (p.to - p.from) (take k ws), ← drop-take p.from (p.to - p.from) ws, e, take-take p.to k ws i.within)
 
 pub meant_front : (ws : List ℕ) (k : ℕ) (e : Option Entry) → FoundInside k e → meant (take k ws) e ≡ meant ws e
 meant_front ws k (Some (Entry.One props from to)) g = refl

@@ -6,11 +6,12 @@ use Rattle.std.proofs.Math.Nat.{add-zero}
 use native.Mathlib.Omega.{arith}
 use Rattle.std.proofs.Math.ListN.{length, length-drop}
 use Rattle.std.proofs.Math.Seq.{drop-drop, get_or-drop}
+use Rattle.std.proofs.lemmas.List.{drop-take}
 use Rattle.book.specs.declared.Entry.{Entry}
 use Rattle.book.specs.Book.{Found, body_of, Nothing, followed, first_lookup_of}
 use Rattle.book.specs.Places.{meant, kind_at, up_to, entry_at}
 use Rattle.book.specs.Bodies.{kind_at_lem}
-use Rattle.book.specs.Inside.{FoundInside, good_kind, good_longer, slid, meant_front}
+use Rattle.book.specs.Inside.{FoundInside, good_kind, good_longer, meant_front}
 
 -- ---- a lookup that begins at a place
 
@@ -59,7 +60,7 @@ module _ (ws : List ℕ) (at : ℕ) where
 
   body_is : at + 4 + size ≤ length ws → body ≡ meant ws kinded
   body_is h =
-      ap (body_of (get_or ws at 0) (get_or ws (at + 1) 0 + 65536 * get_or ws (at + 2) 0)) (slid (at + 4) size ws)
+      ap (body_of (get_or ws at 0) (get_or ws (at + 1) 0 + 65536 * get_or ws (at + 2) 0)) (sym (drop-take (at + 4) size ws))
       ∙ kind_at_lem (up_to ws at) (get_or ws at 0) (get_or ws (at + 1) 0 + 65536 * get_or ws (at + 2) 0) (at + 4)
       ∙ meant_front ws (at + 4 + size) kinded (front h)
 

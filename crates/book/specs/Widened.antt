@@ -1,7 +1,7 @@
 -- Filling a table of slots with values, one a turn.
-use Rattle.std.specs.Prelude.{◌≡◌, List, ℕ, ◌+◌, ◌-◌, ◌≤◌, ◌<◌, length, get_or, take, drop, set}
-use Rattle.std.proofs.Common.{sym, ap, ◌∙◌, zero-add, add-one, arith, take_all, drop_at}
-use Rattle.std.proofs.lemmas.List.{length-replicate, replicate-append-replicate}
+use Rattle.std.specs.Prelude.{◌≡◌, List, ℕ, ◌+◌, ◌-◌, ◌≤◌, ◌<◌, length, get_or, take, set}
+use Rattle.std.proofs.Common.{sym, ap, ◌∙◌, zero-add, add-one, arith, take_all}
+use Rattle.std.proofs.lemmas.List.{length-replicate, drop-replicate}
 use Rattle.std.proofs.Math.Seq.{take-append_seam, paste, paste-suc}
 use Rattle.book.specs.Book.{most_side}
 use Rattle.bits.specs.Bits.{zeros}
@@ -15,18 +15,11 @@ widen_more m values k h l =
     ap (λ (n : ℕ). set (paste (zeros m) 0 values k) n (get_or values k 0)) (sym (zero-add k))
     ∙ rw add-one (paste-suc (zeros m) 0 values k 0 e l)
 
-drop-zeros : (m n : ℕ) → n ≤ m → drop n (zeros m) ≡ zeros (m - n)
-drop-zeros m n h =
-    let e : n + (m - n) ≡ m = omega arith in
-    ap (λ (k : ℕ). drop n (zeros k)) (sym e)
-    ∙ ap (drop n) (sym (replicate-append-replicate n (m - n) 0))
-    ∙ drop_at (zeros n) (zeros (m - n)) n (length-replicate n 0)
-
 -- the end
 pub widened_is : (values : List ℕ) (k : ℕ) → k ≡ length values → length values ≤ most_side → paste (zeros most_side) 0 values k ≡ widened values
 widened_is values k e h =
     ap (paste (zeros most_side) 0 values) e
-    ∙ rw (take_all (length values) values (omega arith), zero-add (length values), drop-zeros most_side (length values) h)
+    ∙ rw (take_all (length values) values (omega arith), zero-add (length values), drop-replicate {X = ℕ} (length values) most_side 0)
 
 -- a matcher is handed the first slots
 pub widened_values : (values : List ℕ) → take (length values) (widened values) ≡ values
