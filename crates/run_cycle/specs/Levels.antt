@@ -1,5 +1,5 @@
 -- The code's side: what a level of the run may count on and leaves, as the code keeps it.
-use Rattle.std.specs.Prelude.{◌≡◌, true, List, ℕ}
+use Rattle.std.specs.Prelude.{◌≡◌, List, ℕ, Some}
 use Rattle.book.specs.Book.{Reads, read_book, lookups_of}
 use Rattle.book.specs.Places.{index_of}
 use Rattle.run.specs.Run.{Stage}
@@ -12,7 +12,7 @@ use Rattle.run_cycle.specs.declared.Closed.{Closed}
 -- the book reads, and these are its lookups' starts
 pub record Indexed (ws starts : List ℕ) (count : ℕ) : Type 0 where
   pub reads : read_book ws ≡ Reads (lookups_of ws)
-  pub is : index_of ws ≡ record { reads = true; count = count; starts = starts }
+  pub is : index_of ws ≡ Some (record { count = count; starts = starts })
 
 -- what a level that is done leaves
 pub record Chained (done coming : List ℕ) (r : Closed) (v : Stage) : Type 0 where

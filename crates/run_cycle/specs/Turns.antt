@@ -2,7 +2,7 @@
 use Rattle.std.specs.Prelude.{◌≡◌, Bool, true, false, cond, not, length, get_or, drop}
 use Rattle.std.proofs.Math.Path.{refl, sym, ap}
 use Rattle.std.proofs.Common.{ap₂, subst, ◌∙◌, arith}
-use mathlib.Core.List.{List}
+use mathlib.Core.List.{List, [], ◌∷◌, ◌++◌}
 use Prim.Native.Nat.{ℕ, zero, suc, ◌+◌, ◌-◌, ◌≤◌, ◌<◌}
 use Rattle.glyph.specs.Glyph.{limit}
 use Rattle.text.specs.Text.{Text, text_of, size_of, moved_to, Fits}
@@ -222,6 +222,14 @@ module _ (given : Given) (sets ws : List ℕ) where
   records_turn depth recs i v w lt e =
       ap (records_by (nested_at depth) depth (records_of (drop (i + 2) recs))) e
       ∙ sym (ap (λ (rs : List Record). records_by (nested_at depth) depth rs v) (records_step recs i lt))
+
+  -- as a loop over pairs of words has it
+  pub records_pair : (depth : ℕ) (pair rest : List ℕ) (v w : Stage) → length pair ≡ 2 → w ≡ step_by (nested_at depth) depth (record_at pair 0) v
+      → records_by (nested_at depth) depth (records_of rest) w ≡ records_by (nested_at depth) depth (records_of (pair ++ rest)) v
+  records_pair depth [] rest v w n e = absurd (omega arith)
+  records_pair depth (a ∷ []) rest v w n e = absurd (omega arith)
+  records_pair depth (a ∷ b ∷ []) rest v w n e = records_turn depth (a ∷ b ∷ rest) 0 v w (omega arith) e
+  records_pair depth (a ∷ b ∷ c ∷ pair) rest v w n e = absurd (omega arith)
 
   pub records_over : (depth : ℕ) (recs : List ℕ) (i : ℕ) (v : Stage) → length recs ≤ i + 1
       → records_by (nested_at depth) depth (records_of (drop i recs)) v ≡ v

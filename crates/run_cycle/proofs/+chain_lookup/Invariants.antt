@@ -1,10 +1,10 @@
 -- The measure is twice the depth, and one more for a lookup: it falls from a chain to the lookups of its records, and from a lookup to its chain.
 -- The loop's invariant: the records that are left, from here, do what all of them do from the start, and the level is sound over the text.
-use Rattle.std.proofs.Common.{length, drop, ◌-◌, ◌+◌, ◌≤◌, ◌≡◌}
+use Rattle.std.proofs.Common.{length, ◌+◌, ◌≡◌}
+use Rattle.std.specs.Slice.Iter.{chunks_exact_rest, chunks_exact_size}
 use Rattle.book.specs.Book.{records_of}
 use Rattle.run.specs.Run.{records_by}
 use Rattle.run_step.specs.State.{stage_of, Able}
-use Rattle.run_cycle.specs.Levels.{Indexed}
 use Rattle.run_cycle.specs.Turns.{nested_at}
 use Rattle.run_cycle.proofs.+chain_lookup.Given as goal
 
@@ -14,13 +14,12 @@ decreases-chain l = l.depth + l.depth
 abbrev pub decreases-lookup : goal.decreases-lookup
 decreases-lookup l = l.depth + l.depth + 1
 
-abbrev pub invariant-chain-loop-i : goal.invariant-chain-loop-i
-invariant-chain-loop-i l =
+abbrev pub invariant-chain-loop-pair : goal.invariant-chain-loop-pair
+invariant-chain-loop-pair l =
     let o = l.initial in
-    (length l.done ≡ length o.done) × (length l.coming ≡ length o.coming) × Indexed l.book l.starts l.count × Able l.done l.coming l.st l.lv
-    × (records_by (nested_at l.given l.sets l.book l.depth) l.depth (records_of (drop l.i l.recs)) (stage_of l.done l.coming l.st l.lv)
-    ≡ records_by (nested_at l.given l.sets l.book l.depth) l.depth (records_of l.recs) (stage_of o.done o.coming o.st o.lv))
-    × (l.i ≤ length l.recs)
-
-abbrev pub decreases-chain-loop-i : goal.decreases-chain-loop-i
-decreases-chain-loop-i l = length l.recs - l.i
+    let h = l.shared in
+    (length l.done ≡ length o.done) × (length l.coming ≡ length o.coming) × Able l.done l.coming l.st l.lv
+    × (records_by (nested_at h.given h.sets.now h.book.now l.depth) l.depth (records_of (chunks_exact_rest l.pair-iterator))
+    (stage_of l.done l.coming l.st l.lv)
+    ≡ records_by (nested_at h.given h.sets.now h.book.now l.depth) l.depth (records_of l.recs) (stage_of o.done o.coming o.st o.lv))
+    × (chunks_exact_size l.pair-iterator ≡ 2)
