@@ -200,14 +200,17 @@ fn run_of_structs(
 }
 
 // A plain glyph is shown by its id, any other by its four words.
-fn ran(a: run_calls::RunAnswer, before: [Vec<u32>; 2], after: [Vec<u32>; 2]) -> String {
+fn ran(
+    a: Result<run_calls::RunAnswer, run::RunRefusal>,
+    before: [Vec<u32>; 2],
+    after: [Vec<u32>; 2],
+) -> String {
     let changed = if before == after { "no word" } else { "words" };
-    let ending = match a.ending {
-        run::RunEnding::Refused(why) => {
-            return format!("refused for its {why:?}, {changed} changed")
-        }
-        run::RunEnding::Ended(ending) => ending,
+    let a = match a {
+        Err(why) => return format!("refused for its {why:?}, {changed} changed"),
+        Ok(a) => a,
     };
+    let ending = a.ending;
     let [done, coming] = after;
     let (done, coming) = (done.split_at(4 * a.d), coming[..row_words()].split_at(4 * a.idx));
     let show =

@@ -1,7 +1,8 @@
 -- Laws of the run's refusals, of the match that is handed in, and of what a run leaves.
 use Rattle.std.specs.Prelude.{◌≡◌, refl, Bool, true, false, not, ◌&&◌, ◌||◌, List, [], ◌∷◌, map, ℕ, zero, suc, ◌+◌, ◌-◌, ◌≤◌, ◌<◌, eqb, leb, length}
-use Rattle.std.specs.Prelude.{get_or, take}
-use Rattle.std.proofs.Common.{sym, ap, subst, ◌∙◌, arith, length-take-le}
+use Rattle.std.specs.Prelude.{Option, Some, None, ⊤, Result, Ok, Err, is_some, get_or, take}
+use Rattle.std.specs.Result.{IsOkAnd}
+use Rattle.std.proofs.Common.{sym, ap, subst, ◌∙◌, true≢false, arith, length-take-le}
 use Rattle.std.proofs.Math.Bool.{cond}
 use borrow.Author.Tests.{eq-eqb, leb-true, ltb-true, ltb-false, eqb-true}
 use Rattle.std.proofs.Math.Dec.{ltb}
@@ -13,7 +14,8 @@ use Rattle.text.specs.declared.Place.{Place}
 use Rattle.text.specs.Text.{text_of, Fits, Holds, Clear, unfit, past_end}
 use Rattle.text.specs.Changes.{fit_exactly}
 use Rattle.text.specs.Laws.{sizes}
-use Rattle.matching.specs.declared.InputAnswer.{InputAnswer}
+use Rattle.matching.specs.declared.Success.{Success}
+use Rattle.matching.specs.declared.NoMatch.{NoMatch}
 use Rattle.matching.specs.Take.{slots}
 use Rattle.matching.specs.Answers.{match_end}
 use Rattle.book.specs.declared.Index.{Index}
@@ -29,15 +31,13 @@ use Rattle.run_positions.specs.Slots.{level_of, shown}
 use Rattle.run_positions.specs.Laws.{level_shown}
 use Rattle.run.specs.declared.RunRefusal.{RunRefusal}
 use Rattle.run.specs.declared.RunRefusal.TheVariants.{Shape, Cursor, Limits, Book, Match}
-use Rattle.run.specs.declared.RunEnding.{RunEnding}
 use Rattle.run_calls.specs.declared.RunAnswer.{RunAnswer}
-use Rattle.run_refuse.specs.declared.Checked.{Checked}
 use Rattle.run_cycle.specs.declared.Closed.{Closed}
 use Rattle.run_cycle.specs.Levels.{Indexed, Chained}
 use Rattle.run_refuse.specs.Refuse.{bad_records, checked_first, checked_places, checked_match}
 use Rattle.run_calls.specs.Calls.{Handed, checked_all}
 use Rattle.run_refuse.specs.Refuse.{rises_to, good_places}
-use Rattle.run_calls.specs.Calls.{refused_by, RunLeaves, SaidBy}
+use Rattle.run_calls.specs.Calls.{refused_by, RunLeaves, answer_place, SaidBy}
 
 -- ---- places that are good
 
@@ -120,16 +120,15 @@ module _ (done coming : List ℕ) (p : Place) (f : Fits done coming p) (end coun
 pub whole_is : (v : Stage) (done₁ coming₁ done₂ coming₂ : List ℕ) (r : Closed) → Chained done₁ coming₁ r v
     → Holds done₂ coming₂ r.state.place (text_of done₁ coming₁ r.state.place) → Clear done₂ coming₂ r.state.place
     → RunLeaves v done₂ coming₂ (record {
-      ending = RunEnding.Ended r.state.ending;
+      ending = r.state.ending;
       spent = r.state.spent;
       d = r.state.place.d;
-      idx =
-          r.state.place.idx;
+      idx = r.state.place.idx;
       count = r.level.count;
       positions = r.level.at;
     })
 whole_is v done₁ coming₁ done₂ coming₂ r c h k = record {
-  ending = ap (λ (x : Run). RunEnding.Ended x.tally.ending) c.ran.is;
+  ending = ap (λ (x : Run). x.tally.ending) c.ran.is;
   spent = ap (λ (x : Run). x.tally.spent) c.ran.is;
   count = ap (λ (x : Slots). x.count) c.level;
   positions = ap (λ (x : Slots). x.at) c.level;
@@ -137,26 +136,32 @@ whole_is v done₁ coming₁ done₂ coming₂ r c h k = record {
   clear = k;
 }
 
+-- the text that the rows hold where the answer parts them
+pub held_by : (v : Stage) (done coming : List ℕ) (r : Result RunAnswer RunRefusal) → IsOkAnd r (RunLeaves v done coming)
+    → Holds done coming (answer_place r) v.run.text × Clear done coming (answer_place r)
+held_by v done coming (Ok r) w = (w.holds, w.clear)
+held_by v done coming (Err why) w = absurd w
+
 -- ---- the refusals, by their cases
 
-pub said_whole : (k : Checked) (v : Stage) (done coming done' coming' : List ℕ) (r : RunAnswer) → k ≡ Checked.Accepted → RunLeaves v done' coming' r
-    → SaidBy k v done coming done' coming' r
+pub said_whole : (k : Result ⊤ RunRefusal) (v : Stage) (done coming done' coming' : List ℕ) (r : Result RunAnswer RunRefusal) → k ≡ Ok tt
+    → IsOkAnd r (RunLeaves v done' coming') → SaidBy k v done coming done' coming' r
 said_whole k v done coming done' coming' r e w = rw e w
 
-pub said_same : (k k' : Checked) (v : Stage) (done coming done' coming' : List ℕ) (r : RunAnswer) → k ≡ k' → SaidBy k' v done coming done' coming' r
-    → SaidBy k v done coming done' coming' r
+pub said_same : (k k' : Result ⊤ RunRefusal) (v : Stage) (done coming done' coming' : List ℕ) (r : Result RunAnswer RunRefusal) → k ≡ k'
+    → SaidBy k' v done coming done' coming' r → SaidBy k v done coming done' coming' r
 said_same k k' v done coming done' coming' r e w = rw e w
 
-pub said_refused : (k : Checked) (why : RunRefusal) (v : Stage) (done coming : List ℕ) (r : RunAnswer) → k ≡ Checked.Refused why → r ≡ refused_by why
-    → SaidBy k v done coming done coming r
+pub said_refused : (k : Result ⊤ RunRefusal) (why : RunRefusal) (v : Stage) (done coming : List ℕ) (r : Result RunAnswer RunRefusal) → k ≡ Err why
+    → r ≡ refused_by why → SaidBy k v done coming done coming r
 said_refused k why v done coming r e q = rw e (q, refl, refl)
 
-module _ (idx end total count : ℕ) (places : List ℕ) (a : InputAnswer) (is : a ≡ InputAnswer.Matched end total) where
-  pub match_bad : good_places idx end count places ≡ false → checked_places idx a count places ≡ Checked.Refused Match
-  match_bad g = ap (λ (x : InputAnswer). checked_places idx x count places) is ∙ ap (λ (b : Bool). cond b Checked.Accepted (Checked.Refused Match)) g
+module _ (idx end total count : ℕ) (places : List ℕ) (a : Result Success NoMatch) (is : a ≡ Ok (record { end = end; total = total })) where
+  pub match_bad : good_places idx end count places ≡ false → checked_places idx a count places ≡ Err Match
+  match_bad g = rw (is, g)
 
-  pub match_good : good_places idx end count places ≡ true → checked_places idx a count places ≡ Checked.Accepted
-  match_good g = ap (λ (x : InputAnswer). checked_places idx x count places) is ∙ ap (λ (b : Bool). cond b Checked.Accepted (Checked.Refused Match)) g
+  pub match_good : good_places idx end count places ≡ true → checked_places idx a count places ≡ Ok tt
+  match_good g = rw (is, g)
 
   pub end_is : end ≡ match_end a
   end_is = ap match_end (sym is)
@@ -181,30 +186,37 @@ is_reading : (k : Reading) → is_read k ≡ true → k ≡ Reads (lookups_by k)
 is_reading (Reads ls) e = refl
 is_reading Unreadable e = let z : ◌≡◌ {A = ℕ} 0 1 = cc in absurd (omega arith)
 
-pub index_is : (ws : List ℕ) (i : Index) → i ≡ index_of ws → i.reads ≡ true → Indexed ws i.starts i.count
-index_is ws i e r = record {
-  reads = is_reading (read_book ws) (sym (index_reads ws) ∙ ap (λ (x : Index). x.reads) (sym e) ∙ r);
-  is = sym e ∙ (λ j. record { reads = r j; count = i.count; starts = i.starts });
+pub index_is : (ws : List ℕ) (i : Index) → index_of ws ≡ Some i → Indexed ws i.starts i.count
+index_is ws i e = record {
+  reads = is_reading (read_book ws) (sym (index_reads ws) ∙ ap (λ (x : Option Index). is_some x) e);
+  is = e;
 }
+
+-- a book that reads has one
+pub index_there : (ws : List ℕ) → is_read (read_book ws) ≡ true → (i : Index) × (index_of ws ≡ Some i)
+index_there ws r = by (index_of ws) refl
+  where
+    by : (o : Option Index) → index_of ws ≡ o → (i : Index) × (index_of ws ≡ Some i)
+    by (Some i) e = (i, e)
+    by None e = absurd (true≢false (sym r ∙ sym (index_reads ws) ∙ ap (λ (x : Option Index). is_some x) e))
 
 -- ---- all refusals
 
-accepted_not : (why : RunRefusal) → Checked.Refused why ≡ Checked.Accepted → ⊥
+accepted_not : (why : RunRefusal) → ◌≡◌ {A = Result ⊤ RunRefusal} (Err why) (Ok tt) → ⊥
 accepted_not why e = let z : ◌≡◌ {A = ℕ} 0 1 = cc in omega arith
 
-not_refused : (b : Bool) (why : RunRefusal) (rest : Checked) → cond b (Checked.Refused why) rest ≡ Checked.Accepted
-    → (b ≡ false) × (rest ≡ Checked.Accepted)
+not_refused : (b : Bool) (why : RunRefusal) (rest : Result ⊤ RunRefusal) → cond b (Err why) rest ≡ Ok tt → (b ≡ false) × (rest ≡ Ok tt)
 not_refused true why rest e = absurd (accepted_not why e)
 not_refused false why rest e = (refl, e)
 
 module _ (h : Handed) (allowance depth : ℕ) where
-  pub all_first : (why : RunRefusal) → checked_first h.done h.coming h.place h.sets h.records allowance depth ≡ Checked.Refused why
-      → checked_all h allowance depth ≡ Checked.Refused why
+  pub all_first : (why : RunRefusal) → checked_first h.done h.coming h.place h.sets h.records allowance depth ≡ Err why
+      → checked_all h allowance depth ≡ Err why
   unfolding checked_all
   all_first why e = rw e
 
-  module _ (first : checked_first h.done h.coming h.place h.sets h.records allowance depth ≡ Checked.Accepted) where
-    pub all_book : is_read (read_book h.book) ≡ false → checked_all h allowance depth ≡ Checked.Refused Book
+  module _ (first : checked_first h.done h.coming h.place h.sets h.records allowance depth ≡ Ok tt) where
+    pub all_book : is_read (read_book h.book) ≡ false → checked_all h allowance depth ≡ Err Book
     unfolding checked_all
     all_book e = rw (first, e)
 
@@ -220,9 +232,9 @@ module _ (h : Handed) (allowance depth : ℕ) where
         let o = odd_sets h.sets || bad_records h.records in
         let a = ltb most_allowance allowance in
         let b = ltb most_depth depth in
-        let last = cond (a || b) (Checked.Refused Limits) Checked.Accepted in
-        let e₁ = not_refused (u || o) Shape (cond (past_end h.place) (Checked.Refused Cursor) last) first in
+        let last = cond (a || b) (Err Limits) (Ok tt) in
+        let e₁ = not_refused (u || o) Shape (cond (past_end h.place) (Err Cursor) last) first in
         let e₂ = not_refused (past_end h.place) Cursor last e₁.1 in
-        let e₃ = not_refused (a || b) Limits Checked.Accepted e₂.1 in
+        let e₃ = not_refused (a || b) Limits (Ok tt) e₂.1 in
         let f = (fit_exactly h.done h.coming h.place).0 (neither_left u o e₁.0, e₂.0) in
         (f.0, f.1, ltb-false most_allowance allowance (neither_left a b e₃.0))

@@ -1,6 +1,7 @@
 -- The run on rows of words: refused by 1, 2, 12, 11 or 7 in this order with no word changed, else what the run on the text says (01, "Records over a
 -- text", "When the desk says no").
-use Rattle.std.specs.Prelude.{◌≡◌, cond, List, [], ◌∷◌, ℕ, length, take}
+use Rattle.std.specs.Prelude.{◌≡◌, cond, List, [], ◌∷◌, ℕ, ⊤, Result, Ok, Err, length, take}
+use Rattle.std.specs.Result.{IsOkAnd}
 use Rattle.std.proofs.Math.Option.{Option, none, some}
 use Rattle.glyph.specs.Reply.{Reply, replies}
 use Rattle.text.specs.declared.Place.{Place}
@@ -14,8 +15,6 @@ use Rattle.run.specs.Deeds.{ruled}
 use Rattle.run.specs.Numbers.{ending_number, run_refusal_number}
 use Rattle.run.specs.declared.RunRefusal.{RunRefusal}
 use Rattle.run.specs.declared.RunRefusal.TheVariants.{Book}
-use Rattle.run.specs.declared.RunEnding.{RunEnding}
-use Rattle.run_refuse.specs.declared.Checked.{Checked}
 use Rattle.run_refuse.specs.Refuse.{checked_first, checked_match}
 use Rattle.run_calls.specs.declared.RunAnswer.{RunAnswer}
 
@@ -32,33 +31,39 @@ pub record Handed : Type 0 where
 
 -- ---- refusals
 
-abbrev pub then : Checked → Checked → Checked
-then Checked.Accepted next = next
-then (Checked.Refused why) next = Checked.Refused why
+abbrev pub then : Result ⊤ RunRefusal → Result ⊤ RunRefusal → Result ⊤ RunRefusal
+then (Ok ok) next = next
+then (Err why) next = Err why
 
 -- 11: the book reads
-abbrev pub checked_book : List ℕ → Checked
-checked_book book = cond (is_read (read_book book)) Checked.Accepted (Checked.Refused Book)
+abbrev pub checked_book : List ℕ → Result ⊤ RunRefusal
+checked_book book = cond (is_read (read_book book)) (Ok tt) (Err Book)
 
 -- 1, 2, 12, 11, 7, in this order
-unfoldable pub checked_all : Handed → ℕ → ℕ → Checked
+unfoldable pub checked_all : Handed → ℕ → ℕ → Result ⊤ RunRefusal
 checked_all h allowance depth =
     then (checked_first h.done h.coming h.place h.sets h.records allowance depth)
     (then (checked_book h.book) (checked_match h.place.idx h.match))
 
 -- ---- the answer
 
-abbrev pub refused_by : RunRefusal → RunAnswer
-refused_by why = record { ending = RunEnding.Refused why; spent = 0; d = 0; idx = 0; count = 0; positions = slotted [] }
+-- the refusal alone: where a run is refused there is no answer
+abbrev pub refused_by : RunRefusal → Result RunAnswer RunRefusal
+refused_by why = Err why
 
 -- what a run leaves: the answer; the text in the rows; and 0 in the cells that are in neither part
 pub record RunLeaves (v : Stage) (done coming : List ℕ) (r : RunAnswer) : Type 0 where
-  pub ending : r.ending ≡ RunEnding.Ended v.run.tally.ending
+  pub ending : r.ending ≡ v.run.tally.ending
   pub spent : r.spent ≡ v.run.tally.spent
   pub count : r.count ≡ length v.level.positions
   pub positions : r.positions ≡ slotted v.level.positions
   pub holds : Holds done coming (record { d = r.d; idx = r.idx }) v.run.text
   pub clear : Clear done coming (record { d = r.d; idx = r.idx })
+
+-- where the rows are parted afterwards; of a refused call, whose text stays, 0 and 0 are our choice
+abbrev pub answer_place : Result RunAnswer RunRefusal → Place
+answer_place (Ok r) = record { d = r.d; idx = r.idx }
+answer_place (Err why) = record { d = 0; idx = 0 }
 
 -- the run on the text that the rows hold, with the match's places counted from the text's first glyph
 abbrev pub run_says : Handed → ℕ → ℕ → Stage
@@ -70,24 +75,21 @@ run_says h allowance depth =
     (text_of h.done h.coming p)
 
 -- refused: the number, and no word changed; accepted: what the run on the text says
-abbrev pub SaidBy : Checked → Stage → List ℕ → List ℕ → List ℕ → List ℕ → RunAnswer → Type 0
-SaidBy (Checked.Refused why) v done coming done' coming' r = (r ≡ refused_by why) × (done' ≡ done) × (coming' ≡ coming)
-SaidBy Checked.Accepted v done coming done' coming' r = RunLeaves v done' coming' r
+abbrev pub SaidBy : Result ⊤ RunRefusal → Stage → List ℕ → List ℕ → List ℕ → List ℕ → Result RunAnswer RunRefusal → Type 0
+SaidBy (Err why) v done coming done' coming' r = (r ≡ refused_by why) × (done' ≡ done) × (coming' ≡ coming)
+SaidBy (Ok ok) v done coming done' coming' r = IsOkAnd r (RunLeaves v done' coming')
 
 -- what a run says of what it is handed: its answer, and both rows afterwards
-abbrev pub Said : Handed → ℕ → ℕ → List ℕ → List ℕ → RunAnswer → Type 0
+abbrev pub Said : Handed → ℕ → ℕ → List ℕ → List ℕ → Result RunAnswer RunRefusal → Type 0
 Said h allowance depth done coming r = SaidBy (checked_all h allowance depth) (run_says h allowance depth) h.done h.coming done coming r
 
 -- ---- this paper's number and values of each answer; a run that is Finished has none, 0 is our choice
 
-abbrev pub checked_number : Checked → Option ℕ
-checked_number Checked.Accepted = none
-checked_number (Checked.Refused why) = some (run_refusal_number why)
-
-abbrev run_reply_by : RunEnding → List ℕ → Reply
-run_reply_by (RunEnding.Ended e) values = replies (ending_number e) values
-run_reply_by (RunEnding.Refused why) values = replies (run_refusal_number why) []
+abbrev pub checked_number : Result ⊤ RunRefusal → Option ℕ
+checked_number (Ok ok) = none
+checked_number (Err why) = some (run_refusal_number why)
 
 -- spent, d, idx, the count and the positions; of a refusal the number alone
-abbrev pub run_reply : RunAnswer → Reply
-run_reply r = run_reply_by r.ending (r.spent ∷ r.d ∷ r.idx ∷ r.count ∷ take r.count r.positions)
+abbrev pub run_reply : Result RunAnswer RunRefusal → Reply
+run_reply (Ok r) = replies (ending_number r.ending) (r.spent ∷ r.d ∷ r.idx ∷ r.count ∷ take r.count r.positions)
+run_reply (Err why) = replies (run_refusal_number why) []

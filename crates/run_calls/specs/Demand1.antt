@@ -2,7 +2,7 @@
 -- before it does, and then no word is changed; else it ends with 0, or with 8, 9 or 10, each exactly when its line says, and both rows are said word
 -- for word.
 -- Said of any answer and rows that meet the contract of `run_calls::run`.
-use Rattle.std.specs.Prelude.{◌≡◌, refl, List, [], ◌↔◌, ℕ}
+use Rattle.std.specs.Prelude.{◌≡◌, refl, List, [], ◌↔◌, ℕ, ⊤, Result, Ok, Err}
 use Rattle.std.proofs.Common.{sym, subst, ⊎_elim}
 use mathlib.Core.Logic.Iff
 use Rattle.glyph.specs.Order.{RefusedBy}
@@ -20,12 +20,13 @@ use Rattle.run.specs.Met.{Met}
 use Rattle.run.specs.Promises.{short_exactly}
 use Rattle.run.specs.Stops.{MetDepth, deep_exactly}
 use Rattle.run.specs.Full.{MetLimit, full_exactly}
-use Rattle.run_refuse.specs.declared.Checked.{Checked}
+use Rattle.run.specs.declared.RunRefusal.{RunRefusal}
 use Rattle.run.specs.Numbers.{ending_number}
 use Rattle.run_calls.specs.Calls.{SaidBy, Handed, checked_all, run_says}
 use Rattle.run_calls.specs.Lines.{places_of}
 use Rattle.run_calls.specs.Table as table
 use Rattle.run_calls.specs.Replies.{no_values, ending_ends, told_refused, told_ended}
+use Rattle.run_calls.specs.CallLaws.{held_by}
 use Rattle.run_calls.specs.Handed.{Left, place_left, left_number, Ends, RepliesAs, Called, run_lines, Acceptable}
 
 -- the level that the match opens on the text that the rows hold, places counted from the text's first glyph
@@ -65,10 +66,10 @@ pub record Demand1 (h : Handed) (allowance depth : ℕ) (l : Left) : Type 0 wher
 -- ---- a call keeps it
 
 module _ (h : Handed) (a d : ℕ) (l : Left) (c : Called h a d l) where
-  accepted : (checked_all h a d ≡ Checked.Accepted) ↔ Acceptable h a d
+  accepted : (checked_all h a d ≡ Ok tt) ↔ Acceptable h a d
   accepted = table.accepted h a d c.book_words
 
-  told : (e : Ending) → (left_number l ≡ ending_number e) ↔ ((checked_all h a d ≡ Checked.Accepted) × ((run_says h a d).run.tally.ending ≡ e))
+  told : (e : Ending) → (left_number l ≡ ending_number e) ↔ ((checked_all h a d ≡ Ok tt) × ((run_says h a d).run.tally.ending ≡ e))
   told e = told_ended (checked_all h a d) (run_says h a d) h.done h.coming l.done l.coming l.answer e c.said
 
   ends : (e : Ending) {M : Type 0} → ((run_says h a d).run.tally.ending ≡ e) ↔ M → (left_number l ≡ ending_number e) ↔ (Acceptable h a d × M)
@@ -77,20 +78,20 @@ module _ (h : Handed) (a d : ℕ) (l : Left) (c : Called h a d l) where
     λ s. (told e).1 (accepted.1 s.0, m.1 s.1),
   )
 
-  same_rows : (k : Checked) → SaidBy k (run_says h a d) h.done h.coming l.done l.coming l.answer → (n : ℕ) → RepliesAs n [] l
+  same_rows : (k : Result ⊤ RunRefusal) → SaidBy k (run_says h a d) h.done h.coming l.done l.coming l.answer → (n : ℕ) → RepliesAs n [] l
       → (l.done ≡ h.done) × (l.coming ≡ h.coming)
-  same_rows (Checked.Refused why) s n e = (s.1, s.2)
-  same_rows Checked.Accepted s n e = absurd (no_values (run_says h a d) l.done l.coming l.answer s n e)
+  same_rows (Err why) s n e = (s.1, s.2)
+  same_rows (Ok ok) s n e = absurd (no_values (run_says h a d) l.done l.coming l.answer s n e)
 
   -- a call that ended was accepted
-  was_accepted : Ends (left_number l) → checked_all h a d ≡ Checked.Accepted
+  was_accepted : Ends (left_number l) → checked_all h a d ≡ Ok tt
   was_accepted =
       ⊎_elim (λ z. ((told Finished).0 z).0) (⊎_elim (λ z. ((told Short).0 z).0) (⊎_elim (λ z. ((told Deep).0 z).0) (λ z. ((told Full).0 z).0)))
 
   rows_hold : Ends (left_number l) → HoldsOnly l.done l.coming (place_left l) (run_says h a d).run.text
   rows_hold e =
-      let w = table.leaves h a d l c (was_accepted e) in
-      holds_only l.done l.coming (place_left l) (run_says h a d).run.text c.done_words c.coming_words w.holds w.clear
+      let w = held_by (run_says h a d) l.done l.coming l.answer (table.leaves h a d l c (was_accepted e)) in
+      holds_only l.done l.coming (place_left l) (run_says h a d).run.text c.done_words c.coming_words w.0 w.1
 
   pub demand_1 : Demand1 h a d l
   demand_1 =

@@ -1,6 +1,8 @@
 -- Demand 3 of calls, in 01's numbers and values (01, "Nailing an answer down": a Finished run stays the same with a larger allowance and depth, and
 -- one less than it spent is Short). Said of two calls of the same text, and of any answers and rows that meet the contract of `run_calls::run`, so of
 -- every call of it.
+use Rattle.std.specs.Result.{IsOkAnd}
+use Rattle.std.specs.Prelude.{⊤, Result, Ok, Err}
 use Rattle.std.specs.Prelude.{◌≡◌, refl, List, [], ◌∷◌, ◌++◌, ℕ, suc, ◌+◌, ◌-◌, ◌*◌, ◌%◌, ◌≤◌, ◌<◌, length, get_or, take, drop}
 use Rattle.std.proofs.Common.{sym, ap, subst, ◌∙◌, inl, inr, ⊎_elim, arith, length-append, length-drop, get_or-take, length-take-le}
 use Rattle.glyph.specs.Glyph.{limit, glyphs_of}
@@ -9,7 +11,6 @@ use Rattle.glyph.specs.Reply.{Reply, replies}
 use Rattle.text.specs.declared.Place.{Place}
 use Rattle.text.specs.Text.{Text, text_of, Fits}
 use Rattle.text.specs.Laws.{sizes}
-use Rattle.matching.specs.declared.InputAnswer.{InputAnswer}
 use Rattle.matching.specs.declared.InputMatch.{InputMatch}
 use Rattle.matching.specs.Answers.{slotted, match_end}
 use Rattle.book.specs.Book.{most_records, records_of, lookups_of}
@@ -22,12 +23,10 @@ use Rattle.run.specs.Deeds.{ruled}
 use Rattle.run.specs.Promises.{Alike, more_is_same, less_is_short, spent_within}
 use Rattle.run.specs.declared.RunRefusal.{RunRefusal}
 use Rattle.run.specs.declared.RunRefusal.TheVariants.{Shape, Cursor, Limits, Book, Match}
-use Rattle.run.specs.declared.RunEnding.{RunEnding}
 use Rattle.run_calls.specs.declared.RunAnswer.{RunAnswer}
-use Rattle.run_refuse.specs.declared.Checked.{Checked}
 use Rattle.run.specs.Numbers.{ending_number, run_refusal_number}
-use Rattle.run_calls.specs.Calls.{SaidBy, RunLeaves, run_reply, Handed, checked_all, run_says}
-use Rattle.run_calls.specs.Replies.{refused_reply, ended_number, ending_by, ending_back, told_refused}
+use Rattle.run_calls.specs.Calls.{SaidBy, RunLeaves, answer_place, run_reply, Handed, checked_all, run_says}
+use Rattle.run_calls.specs.Replies.{refused_reply, leaves_number, ending_by, ending_back, told_refused}
 use Rattle.run_calls.specs.Decided.{run_decided}
 use Rattle.run_calls.specs.CallLaws.{said_whole}
 use Rattle.run_calls.specs.Lines.{Limited, Beyond, Legible, places_of, Usable}
@@ -68,28 +67,33 @@ finished_by : (e : Ending) → ending_number e ≡ 0 → e ≡ Finished
 finished_by e z = sym (ending_back e) ∙ ap ending_by z
 
 -- accepted, ended Finished, and what it left
-record Ended0 (k : Checked) (v : Stage) (done coming : List ℕ) (r : RunAnswer) : Type 0 where
-  taken : k ≡ Checked.Accepted
+record Ended0 (k : Result ⊤ RunRefusal) (v : Stage) (done coming : List ℕ) (r : Result RunAnswer RunRefusal) : Type 0 where
+  taken : k ≡ Ok tt
   finished : v.run.tally.ending ≡ Finished
-  whole : RunLeaves v done coming r
+  whole : IsOkAnd r (RunLeaves v done coming)
 
-ended_0 : (k : Checked) (v : Stage) (done₀ coming₀ done coming : List ℕ) (r : RunAnswer) → SaidBy k v done₀ coming₀ done coming r
-    → (run_reply r).number ≡ 0 → Ended0 k v done coming r
-ended_0 (Checked.Refused why) v done₀ coming₀ done coming r s z =
+ended_0 : (k : Result ⊤ RunRefusal) (v : Stage) (done₀ coming₀ done coming : List ℕ) (r : Result RunAnswer RunRefusal)
+    → SaidBy k v done₀ coming₀ done coming r → (run_reply r).number ≡ 0 → Ended0 k v done coming r
+ended_0 (Err why) v done₀ coming₀ done coming r s z =
     absurd (refusal_not_0 why (sym (ap (λ (x : Reply). x.number) (refused_reply r why s.0)) ∙ z))
-ended_0 Checked.Accepted v done₀ coming₀ done coming r s z =
-    record { taken = refl; finished = finished_by v.run.tally.ending (sym (ended_number r v.run.tally.ending s.ending) ∙ z); whole = s }
+ended_0 (Ok ok) v done₀ coming₀ done coming r s z =
+    record { taken = refl; finished = finished_by v.run.tally.ending (sym (leaves_number v done coming r s) ∙ z); whole = s }
 
 -- what runs that are alike leave is the same
 whole_alike : (v w : Stage) (done coming : List ℕ) (r : RunAnswer) → Alike v w → RunLeaves v done coming r → RunLeaves w done coming r
 whole_alike v w done coming r a u = record {
-  ending = u.ending ∙ ap RunEnding.Ended (a.finished.0 ∙ sym a.finished.1);
+  ending = u.ending ∙ a.finished.0 ∙ sym a.finished.1;
   spent = u.spent ∙ a.spent;
   count = u.count ∙ ap (λ (ps : List ℕ). length ps) a.positions;
   positions = u.positions ∙ ap slotted a.positions;
   holds = record { fits = u.holds.fits; text = u.holds.text ∙ (λ j. record { glyphs = a.glyphs j; cursor = a.cursor j }) };
   clear = u.clear;
 }
+
+alike_by : (v w : Stage) (done coming : List ℕ) (r : Result RunAnswer RunRefusal) → Alike v w → IsOkAnd r (RunLeaves v done coming)
+    → IsOkAnd r (RunLeaves w done coming)
+alike_by v w done coming (Ok r) a u = whole_alike v w done coming r a u
+alike_by v w done coming (Err why) a u = u
 
 module _ (h : Handed) where
   abbrev first : Level
@@ -99,7 +103,7 @@ module _ (h : Handed) where
   t = text_of h.done h.coming h.place
 
   -- the same call is accepted with any other allowance and depth within 12's limits
-  still_accepted : Narrow h.book → (a d a' d' : ℕ) → checked_all h a d ≡ Checked.Accepted → Limited a' d' → checked_all h a' d' ≡ Checked.Accepted
+  still_accepted : Narrow h.book → (a d a' d' : ℕ) → checked_all h a d ≡ Ok tt → Limited a' d' → checked_all h a' d' ≡ Ok tt
   still_accepted w a d a' d' e l =
       let s = (accepted h a d w).0 e in
       (accepted h a' d' w).1 (record { shaped = s.shaped; inside = s.inside; limited = l; legible = s.legible; usable = s.usable })
@@ -115,14 +119,14 @@ module _ (h : Handed) where
           let alike : Alike (run_says h a' d') (run_says h a d) =
           more_is_same (ruled h.given h.sets) (lookups_of h.book) (records_of h.records) first.positions
           first.end t d d' a a' deeper more ended.finished in
-          let s = run_decided Checked.Accepted (run_says h a d) h.done h.coming l.done l.coming l.answer l'.done l'.coming
+          let s = run_decided (Ok tt) (run_says h a d) h.done h.coming l.done l.coming l.answer l'.done l'.coming
           l'.answer
           c.done_words c.coming_words c'.done_words c'.coming_words ended.whole
-          (whole_alike (run_says h a' d') (run_says h a d) l'.done l'.coming l'.answer alike w') in
+          (alike_by (run_says h a' d') (run_says h a d) l'.done l'.coming l'.answer alike w') in
           record {
             answer = s.answer;
             reply = ap run_reply s.answer;
-            text = λ j. text_of (s.done_same j) (s.coming_same j) (record { d = (s.answer j).d; idx = (s.answer j).idx });
+            text = λ j. text_of (s.done_same j) (s.coming_same j) (answer_place (s.answer j));
             done_same = s.done_same;
             coming_same = s.coming_same;
           }
@@ -134,23 +138,26 @@ module _ (h : Handed) where
           (told_refused (checked_all h a' d') (run_says h a' d') h.done h.coming l'.done l'.coming l'.answer 12 c'.said).1
           ((refused h a' d' c.book_words 12).1 (inr (s.shaped, inr (s.inside, inl (refl, n)))))
 
-      short_by : (a' : ℕ) (l' : Left) → Called h a' d l' → a' < l.answer.spent → left_number l' ≡ 8
-      short_by a' l' c' lt =
+      short_by : (a' : ℕ) (l' : Left) → Called h a' d l' → (r : RunAnswer) → l.answer ≡ Ok r → a' < r.spent → left_number l' ≡ 8
+      short_by a' l' c' r is lt =
           let rules = ruled h.given h.sets in
           let book = lookups_of h.book in
           let records = records_of h.records in
-          let some : a' < (run_says h a d).run.tally.spent = omega (arith, ended.whole.spent) in
+          let whole : RunLeaves (run_says h a d) l.done l.coming r =
+          subst (λ (x : Result RunAnswer RunRefusal). IsOkAnd x (RunLeaves (run_says h a d) l.done l.coming)) is ended.whole in
+          let some : a' < (run_says h a d).run.tally.spent = omega (arith, whole.spent) in
           let few = spent_within rules book records first.positions first.end t d a in
           let lim = ((accepted h a d c.book_words).0 ended.taken).limited in
           let w' = leaves h a' d l' c' (still_accepted c.book_words a d a' d ended.taken (omega (arith, lim.0), lim.1)) in
           let e : (run_says h a' d).run.tally.ending ≡ Short = less_is_short rules book records first.positions first.end t d a a'
           ended.finished some in
-          ended_number l'.answer Short (w'.ending ∙ ap RunEnding.Ended e)
+          leaves_number (run_says h a' d) l'.done l'.coming l'.answer w' ∙ ap ending_number e
 
 -- the number spent is the first value of a reply of 0
-spent_first : (r : RunAnswer) (e : RunEnding) (s : ℕ) (values : List ℕ) → r.ending ≡ e → run_reply r ≡ replies 0 (s ∷ values) → r.spent ≡ s
-spent_first r (RunEnding.Ended e) s values q z = let w = ap (λ (x : Reply). x.values) (rw q at z) in cc
-spent_first r (RunEnding.Refused why) s values q z = absurd (refusal_not_0 why (ap (λ (x : Reply). x.number) (rw q at z)))
+spent_first : (r : Result RunAnswer RunRefusal) (s : ℕ) (values : List ℕ) → run_reply r ≡ replies 0 (s ∷ values)
+    → (x : RunAnswer) × ((r ≡ Ok x) × (x.spent ≡ s))
+spent_first (Ok x) s values z = let w = ap (λ (y : Reply). y.values) z in (x, (refl, cc))
+spent_first (Err why) s values z = absurd (refusal_not_0 why (ap (λ (x : Reply). x.number) z))
 
 -- ---- a call that is accepted stays so over any rows that hold its text
 
@@ -174,8 +181,8 @@ place_by done coming done' coming' p p' f i a b e =
 
 -- a match with the same positions and end is as good; its total isn't looked at
 usable_too : (idx : ℕ) (m m' : InputMatch) → m.count ≡ m'.count → places_of m ≡ places_of m'
-    → ((n total : ℕ) → m.answer ≡ InputAnswer.Matched n total → (total' : ℕ) × (m'.answer ≡ InputAnswer.Matched n total')) → Usable idx m
-    → Usable idx m'
+    → ((n total : ℕ) → m.answer ≡ Ok (record { end = n; total = total }) → (total' : ℕ) × (m'.answer ≡ Ok (record { end = n; total = total' })))
+    → Usable idx m → Usable idx m'
 usable_too idx m m' n ps e u =
     let s = e u.end u.total u.success in
     let c = u.some in
@@ -243,7 +250,7 @@ handed_over h h' s a d l c z =
     record {
       said = said_whole (checked_all h' a d) (run_says h' a d) h'.done h'.coming l.done l.coming l.answer
           ((accepted h' a d w).1 (acceptable_too h h' s a d k))
-          (subst (λ (v : Stage). RunLeaves v l.done l.coming l.answer) (same_stage h h' s a d k) e.whole);
+          (subst (λ (v : Stage). IsOkAnd l.answer (RunLeaves v l.done l.coming)) (same_stage h h' s a d k) e.whole);
       done_words = c.done_words;
       coming_words = c.coming_words;
       book_words = w;
@@ -262,7 +269,8 @@ demand_3 h h' s = record {
         → left_number l' ≡ 8
     less a d a' n values l l' c c' z lt =
         let y : left_number l ≡ 0 = ap (λ (x : Reply). x.number) z in
-        short_by h' a d l (handed_over h h' s a d l c y) y a' l' c' (omega (arith, spent_first l.answer l.answer.ending n values refl z))
+        let f = spent_first l.answer n values z in
+        short_by h' a d l (handed_over h h' s a d l c y) y a' l' c' f.0 f.1.0 (omega (arith, f.1.1))
 
 -- so for every two that differ in allowance and depth alone
 pub same_handed : (h : Handed) → SameText h h

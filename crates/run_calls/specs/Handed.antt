@@ -1,14 +1,14 @@
 -- A call of a run, and what it leaves: what demands 1 and 3 are said of.
-use Rattle.std.specs.Prelude.{◌≡◌, List, [], ◌∷◌, ◌⊎◌, ℕ, length}
+use Rattle.std.specs.Prelude.{◌≡◌, List, [], ◌∷◌, ◌⊎◌, ℕ, Result, Ok, length}
 use Rattle.glyph.specs.Lossless.{Small}
 use Rattle.glyph.specs.Order.{Line}
 use Rattle.text.specs.declared.Place.{Place}
 use Rattle.text.specs.Text.{Text, text_of}
-use Rattle.matching.specs.declared.InputAnswer.{InputAnswer}
 use Rattle.book.specs.Encode.{Narrow}
+use Rattle.run.specs.declared.RunRefusal.{RunRefusal}
 use Rattle.run_calls.specs.declared.RunAnswer.{RunAnswer}
 use Rattle.glyph.specs.Reply.{replies}
-use Rattle.run_calls.specs.Calls.{Handed, Said, run_reply}
+use Rattle.run_calls.specs.Calls.{Handed, Said, answer_place, run_reply}
 use Rattle.run_calls.specs.Lines.{RunShaped, CursorInside, Limited, Legible, places_of, Usable}
 
 -- ---- the lines of the refusals, of what is handed in
@@ -44,7 +44,8 @@ pub record SameText (h h' : Handed) : Type 0 where
   pub coming_long : length h.coming ≡ length h'.coming
   pub count : h.match.count ≡ h'.match.count
   pub positions : places_of h.match ≡ places_of h'.match
-  pub end : (n total : ℕ) → h.match.answer ≡ InputAnswer.Matched n total → (total' : ℕ) × (h'.match.answer ≡ InputAnswer.Matched n total')
+  pub end : (n total : ℕ) → h.match.answer ≡ Ok (record { end = n; total = total })
+      → (total' : ℕ) × (h'.match.answer ≡ Ok (record { end = n; total = total' }))
   pub sets : h.sets ≡ h'.sets
   pub book : h.book ≡ h'.book
   pub records : h.records ≡ h'.records
@@ -52,13 +53,13 @@ pub record SameText (h h' : Handed) : Type 0 where
 
 -- what a call leaves: its answer, and both rows afterwards
 pub record Left : Type 0 where
-  pub answer : RunAnswer
+  pub answer : Result RunAnswer RunRefusal
   pub done : List ℕ
   pub coming : List ℕ
 
 -- where it left the rows parted, and the text that it left in them
 abbrev pub place_left : Left → Place
-place_left l = record { d = l.answer.d; idx = l.answer.idx }
+place_left l = answer_place l.answer
 
 abbrev pub text_after : Left → Text
 text_after l = text_of l.done l.coming (place_left l)

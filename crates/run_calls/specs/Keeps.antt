@@ -1,6 +1,8 @@
 -- A run touches no glyph before the match's first position, which is the cursor, and leaves rising positions (01, "Records over a text"), said of
 -- calls.
 -- Every chain of a book that reads matches in its text, so what is shown of any fair rules holds of the run.
+use Rattle.std.specs.Result.{IsOkAnd}
+use Rattle.std.specs.Prelude.{Result, Ok, Err}
 use Rattle.std.specs.Prelude.{◌≡◌, refl, true, List, ℕ, ◌-◌, ◌≤◌, ◌<◌, length, get_or, take, replicate}
 use Rattle.std.proofs.Common.{sym, ap, ap₂, subst, ◌∙◌, arith, length-take, take_at}
 use Rattle.std.proofs.lemmas.List.{length-map}
@@ -12,9 +14,8 @@ use Rattle.text.specs.Changes.{before_cursor}
 use Rattle.text.specs.Laws.{sizes}
 use Rattle.matching.specs.Take.{slots}
 use Rattle.book.specs.Book.{records_of, read_book, is_read, lookups_of}
-use Rattle.book.specs.Places.{index_of}
-use Rattle.book.specs.Starts.{index_reads}
 use Rattle.run.specs.declared.Given.{Given}
+use Rattle.run.specs.declared.RunRefusal.{RunRefusal}
 use Rattle.run.specs.Repair.{Level, repaired, Rises, Sound}
 use Rattle.run.specs.Run.{begun, from_done, moved_level}
 use Rattle.run.specs.Rises.{rises_wider}
@@ -24,15 +25,16 @@ use Rattle.run.specs.Deeds.{ruled}
 use Rattle.run.specs.Drawn.{Drawn, Copied, Has, Steady, mask, mask_copied, run_drawn, drawn_has, drawn_steady}
 use Rattle.run.specs.Promises.{run_good}
 use Rattle.run_cycle.specs.Cycle.{book_fair}
+use Rattle.run_calls.specs.declared.RunAnswer.{RunAnswer}
 use Rattle.run_calls.specs.Calls.{RunLeaves, Handed, run_says}
-use Rattle.run_calls.specs.CallLaws.{places_show, moved_rise, index_is}
+use Rattle.run_calls.specs.CallLaws.{places_show, moved_rise, index_is, index_there, held_by}
 use Rattle.run_calls.specs.Lines.{Usable, places_of}
 use Rattle.run_calls.specs.Table.{good_by, reads, accepted, fits_of, leaves}
 use Rattle.run_calls.specs.Handed.{Left, text_after, Called, Acceptable}
 use Rattle.matching.specs.Answers.{match_end}
 
 fair_of : (book : List ℕ) (given : Given) (sets : List ℕ) → is_read (read_book book) ≡ true → Fair (ruled given sets) (lookups_of book)
-fair_of book given sets r = book_fair (index_is book (index_of book) refl (index_reads book ∙ r)) given sets
+fair_of book given sets r = let i = index_there book r in book_fair (index_is book i.0 i.1) given sets
 
 module _ (h : Handed) where
   abbrev p : Place
@@ -70,33 +72,45 @@ module _ (h : Handed) where
         run_good (ruled h.given h.sets) (lookups_of h.book) (records_of h.records) first.positions first.end t
         (fair_of h.book h.given h.sets (reads h.book c.book_words k.legible)) d a (first_sound fits k.usable) (omega arith)
 
-    whole : RunLeaves (run_says h a d) l.done l.coming l.answer
+    whole : IsOkAnd l.answer (RunLeaves (run_says h a d) l.done l.coming)
     whole = leaves h a d l c ((accepted h a d c.book_words).1 k)
+
+    text_is : text_after l ≡ (run_says h a d).run.text
+    text_is = (held_by (run_says h a d) l.done l.coming l.answer whole).0.text
 
     -- the level that it leaves, over the text that it leaves
     level_sound : Sound p.d (length (text_after l).glyphs) (run_says h a d).level
-    level_sound = subst (λ (u : Text). Sound p.d (length u.glyphs) (run_says h a d).level) (sym whole.holds.text) good.level
+    level_sound = subst (λ (u : Text). Sound p.d (length u.glyphs) (run_says h a d).level) (sym text_is) good.level
 
     -- the glyphs before the cursor, the first d of `done`, are those of the text afterwards
     pub run_keeps : take p.d (text_after l).glyphs ≡ take p.d (glyphs_of h.done)
     run_keeps =
-        ap (λ (u : Text). take p.d u.glyphs) whole.holds.text ∙ good.kept.before ∙ before_cursor fits
+        ap (λ (u : Text). take p.d u.glyphs) text_is ∙ good.kept.before ∙ before_cursor fits
 
     -- the answer's positions are at most 64
-    pub positions_few : l.answer.count ≤ slots
-    positions_few = omega (arith, whole.count, level_sound.few)
+    pub positions_few : IsOkAnd l.answer (λ r. r.count ≤ slots)
+    positions_few = by l.answer whole
+      where
+        by : (r : Result RunAnswer RunRefusal) → IsOkAnd r (RunLeaves (run_says h a d) l.done l.coming) → IsOkAnd r (λ x. x.count ≤ slots)
+        by (Ok r) w = omega (arith, w.count, level_sound.few)
+        by (Err why) w = w
 
     -- they rise from the cursor on, and none is past the text's end
-    pub positions_rise : Rises p.d (length (text_after l).glyphs) (take l.answer.count l.answer.positions)
-    positions_rise =
-        let ps : List ℕ = (run_says h a d).level.positions in
-        let e : take l.answer.count l.answer.positions ≡ ps =
-        ap₂ (λ (n : ℕ) (s : List ℕ). take n s) whole.count whole.positions ∙ take_at ps (replicate (slots - length ps) 0) (length ps) refl in
-        rw e (rises_wider p.d (length (text_after l).glyphs) (omega arith) level_sound.within level_sound.rises)
+    pub positions_rise : IsOkAnd l.answer (λ r. Rises p.d (length (text_after l).glyphs) (take r.count r.positions))
+    positions_rise = by l.answer whole
+      where
+        by : (r : Result RunAnswer RunRefusal) → IsOkAnd r (RunLeaves (run_says h a d) l.done l.coming)
+            → IsOkAnd r (λ x. Rises p.d (length (text_after l).glyphs) (take x.count x.positions))
+        by (Ok r) w =
+            let ps : List ℕ = (run_says h a d).level.positions in
+            let e : take r.count r.positions ≡ ps =
+            ap₂ (λ (n : ℕ) (s : List ℕ). take n s) w.count w.positions ∙ take_at ps (replicate (slots - length ps) 0) (length ps) refl in
+            rw e (rises_wider p.d (length (text_after l).glyphs) (omega arith) level_sound.within level_sound.rises)
+        by (Err why) w = w
 
     -- a field that is copied into what is written: its values after are those before, in their order
     fields_drawn : {X : Type 0} (f : Glyph → X) → Copied f written → Drawn f t.glyphs (text_after l).glyphs
-    fields_drawn f k = subst (λ (u : Text). Drawn f t.glyphs u.glyphs) (sym whole.holds.text)
+    fields_drawn f k = subst (λ (u : Text). Drawn f t.glyphs u.glyphs) (sym text_is)
         (run_drawn (chain_by h.given h.sets) written (λ found. repaired) (lookups_of h.book) d (records_of h.records) first.positions
         first.end a t f k)
 

@@ -1,9 +1,8 @@
 -- What each line of the run's refusals lets pass (01, "When the desk says no"): the line refuses where that isn't so. That a
 -- call is refused by exactly the first line that refuses: Demand1.
-use Rattle.std.specs.Prelude.{◌≡◌, List, ◌⊎◌, ℕ, suc, ◌+◌, ◌-◌, ◌*◌, ◌%◌, ◌≤◌, ◌<◌, length, get_or, take}
+use Rattle.std.specs.Prelude.{◌≡◌, List, ◌⊎◌, ℕ, suc, ◌+◌, ◌-◌, ◌*◌, ◌%◌, ◌≤◌, ◌<◌, Ok, length, get_or, take}
 use Rattle.glyph.specs.Glyph.{words, limit}
 use Rattle.text.specs.declared.Place.{Place}
-use Rattle.matching.specs.declared.InputAnswer.{InputAnswer}
 use Rattle.matching.specs.declared.InputMatch.{InputMatch}
 use Rattle.matching.specs.Take.{slots}
 use Rattle.book.specs.Book.{Lookup, most_records}
@@ -44,7 +43,7 @@ places_of m = take m.count m.positions
 pub record Usable (idx : ℕ) (m : InputMatch) : Type 0 where
   pub end : ℕ
   pub total : ℕ
-  pub success : m.answer ≡ InputAnswer.Matched end total
+  pub success : m.answer ≡ Ok (record { end = end; total = total })
   pub some : 1 ≤ m.count
   pub few : m.count ≤ slots
   pub first : get_or m.positions 0 0 ≡ idx

@@ -1,7 +1,8 @@
 -- The run's refusals as 01's table has them ("When the desk says no"): the code's tests tell the lines 1, 2, 12, 11 and 7, so a call is refused by
 -- the first line that refuses, and accepted exactly when each lets pass (Order).
 use Rattle.std.specs.Prelude.{◌≡◌, refl, Bool, true, false, cond, not, ◌&&◌, ◌||◌, List, [], ◌∷◌, ◌↔◌, ℕ, zero, suc, ◌+◌, ◌*◌, ◌≤◌, ◌<◌, eqb, leb}
-use Rattle.std.specs.Prelude.{ltb, length, get_or, take}
+use Rattle.std.specs.Prelude.{⊤, Result, Ok, Err, ltb, length, get_or, take}
+use Rattle.std.specs.Result.{IsOkAnd, is_err}
 use Rattle.std.proofs.Common.{sym, ap, subst, ◌∙◌, true≢false, arith, le-leb, lt-ltb, eq-eqb, ne_eqb, leb-true, ltb-true, eqb-true, get_or-take}
 use Rattle.std.proofs.Math.Option.{none, some, some-ne-none}
 use Rattle.std.proofs.lemmas.Bool.{not-false}
@@ -12,14 +13,15 @@ use Rattle.glyph.specs.Tests.{both, at_or_past, over, paired}
 use Rattle.glyph.specs.Order.{first_answer, RefusedBy, Tested, tests_of, refused_exactly, through_exactly}
 use Rattle.text.specs.declared.Place.{Place}
 use Rattle.text.specs.Text.{Fits, unfit, wrong_length, past_end}
-use Rattle.matching.specs.declared.InputAnswer.{InputAnswer}
+use Rattle.matching.specs.declared.Success.{Success}
+use Rattle.matching.specs.declared.NoMatch.{NoMatch}
 use Rattle.matching.specs.declared.InputMatch.{InputMatch}
 use Rattle.matching.specs.Take.{slots}
 use Rattle.book.specs.Book.{most_records, Reading, Reads, Unreadable, read_book, is_read}
 use Rattle.book.specs.Encode.{Narrow}
 use Rattle.book.specs.Only.{reads_exactly}
+use Rattle.run.specs.declared.RunRefusal.{RunRefusal}
 use Rattle.run.specs.declared.RunRefusal.TheVariants.{Shape, Cursor, Limits, Book, Match}
-use Rattle.run_refuse.specs.declared.Checked.{Checked}
 use Rattle.run.specs.Numbers.{run_refusal_number}
 use Rattle.run_refuse.specs.Refuse.{bad_records, checked_first, checked_places, checked_match, rises_to, good_places}
 use Rattle.run_calls.specs.Calls.{Handed, checked_all, then}
@@ -121,13 +123,13 @@ rises_then low end (p ∷ ps) r =
       below = λ i h. r.below (suc i) (omega arith);
     }))
 
-abbrev is_refused : Checked → Bool
-is_refused Checked.Accepted = false
-is_refused (Checked.Refused why) = true
+-- by 7 where the places aren't good
+abbrev seven : Bool → Result ⊤ RunRefusal
+seven g = cond g (Ok tt) (Err Match)
 
 module _ (idx : ℕ) (m : InputMatch) where
   -- the test of line 7
-  usable_by : (end total : ℕ) → m.answer ≡ InputAnswer.Matched end total → good_places idx end m.count m.positions ≡ true → Usable idx m
+  usable_by : (end total : ℕ) → m.answer ≡ Ok (record { end = end; total = total }) → good_places idx end m.count m.positions ≡ true → Usable idx m
   usable_by end total e g =
       let s = places_show idx end m.count m.positions g in
       let r = rises_so idx end (places_of m) s.rise in
@@ -162,48 +164,44 @@ module _ (idx : ℕ) (m : InputMatch) where
       (rises_then idx u.end (places_of m)
       (record { begins = λ h. begins_at m.count m.positions c u.first; rising = u.rising; below = u.below }))
 
-  match_accepted : Usable idx m → checked_match idx m ≡ Checked.Accepted
+  match_accepted : Usable idx m → checked_match idx m ≡ Ok tt
   match_accepted u = rw (u.success, good_by u)
 
   abbrev bad7 : Bool
-  bad7 = is_refused (checked_match idx m)
+  bad7 = is_err (checked_match idx m)
 
   usable : (bad7 ≡ false) ↔ Usable idx m
-  usable = (by m.answer refl, λ u. ap is_refused (match_accepted u))
+  usable = (by m.answer refl, λ u. ap is_err (match_accepted u))
     where
-      good : (end total : ℕ) → m.answer ≡ InputAnswer.Matched end total → (g : Bool) → good_places idx end m.count m.positions ≡ g
-          → is_refused (cond g Checked.Accepted (Checked.Refused Match)) ≡ false → Usable idx m
+      good : (end total : ℕ) → m.answer ≡ Ok (record { end = end; total = total }) → (g : Bool) → good_places idx end m.count m.positions ≡ g
+          → is_err (seven g) ≡ false → Usable idx m
       good end total e true g n = usable_by end total e g
       good end total e false g n = absurd (true≢false n)
 
-      by : (a : InputAnswer) → m.answer ≡ a → is_refused (checked_places idx a m.count m.positions) ≡ false → Usable idx m
-      by (InputAnswer.Matched end total) e n = good end total e (good_places idx end m.count m.positions) refl n
-      by (InputAnswer.Refused why) e n = absurd (true≢false n)
-      by (InputAnswer.Lost extent) e n = absurd (true≢false n)
-      by InputAnswer.Ligature e n = absurd (true≢false n)
+      by : (a : Result Success NoMatch) → m.answer ≡ a → is_err (checked_places idx a m.count m.positions) ≡ false → Usable idx m
+      by (Ok s) e n = good s.end s.total e (good_places idx s.end m.count m.positions) refl n
+      by (Err why) e n = absurd (true≢false n)
 
   -- by 7, and no other
   number_7 : checked_number (checked_match idx m) ≡ cond bad7 (some 7) none
   number_7 = by m.answer
     where
-      good : (g : Bool) → checked_number (cond g Checked.Accepted (Checked.Refused Match))
-          ≡ cond (is_refused (cond g Checked.Accepted (Checked.Refused Match))) (some 7) none
+      good : (g : Bool) → checked_number (seven g)
+          ≡ cond (is_err (seven g)) (some 7) none
       good true = refl
       good false = refl
 
-      by : (a : InputAnswer) → checked_number (checked_places idx a m.count m.positions)
-          ≡ cond (is_refused (checked_places idx a m.count m.positions)) (some 7) none
-      by (InputAnswer.Matched end total) = good (good_places idx end m.count m.positions)
-      by (InputAnswer.Refused why) = refl
-      by (InputAnswer.Lost extent) = refl
-      by InputAnswer.Ligature = refl
+      by : (a : Result Success NoMatch) → checked_number (checked_places idx a m.count m.positions)
+          ≡ cond (is_err (checked_places idx a m.count m.positions)) (some 7) none
+      by (Ok s) = good (good_places idx s.end m.count m.positions)
+      by (Err why) = refl
 
 -- ---- the table
 
 -- the tests, one after another
-in_order : (a b c r z : Bool) (k : Checked) → checked_number k ≡ cond z (some 7) none
-    → checked_number (then (cond a (Checked.Refused Shape) (cond b (Checked.Refused Cursor) (cond c (Checked.Refused Limits) Checked.Accepted)))
-    (then (cond r Checked.Accepted (Checked.Refused Book)) k))
+in_order : (a b c r z : Bool) (k : Result ⊤ RunRefusal) → checked_number k ≡ cond z (some 7) none
+    → checked_number (then (cond a (Err Shape) (cond b (Err Cursor) (cond c (Err Limits) (Ok tt))))
+    (then (cond r (Ok tt) (Err Book)) k))
     ≡ cond a (some 1) (cond b (some 2) (cond c (some 12) (cond (not r) (some 11) (cond z (some 7) none))))
 in_order true b c r z k e = refl
 in_order false true c r z k e = refl
@@ -212,9 +210,9 @@ in_order false false false false z k e = refl
 in_order false false false true z k e = e
 
 -- an accepted call has no number
-accepted_by : (k : Checked) → (k ≡ Checked.Accepted) ↔ (checked_number k ≡ none)
-accepted_by Checked.Accepted = (λ e. refl, λ e. refl)
-accepted_by (Checked.Refused why) = (λ e. ap checked_number e, λ e. absurd (some-ne-none (run_refusal_number why) e))
+accepted_by : (k : Result ⊤ RunRefusal) → (k ≡ Ok tt) ↔ (checked_number k ≡ none)
+accepted_by (Ok ok) = (λ e. refl, λ e. refl)
+accepted_by (Err why) = (λ e. ap checked_number e, λ e. absurd (some-ne-none (run_refusal_number why) e))
 
 module _ (h : Handed) (allowance depth : ℕ) (w : Narrow h.book) where
   -- 01's lines in their order, each with the code's test
@@ -249,7 +247,7 @@ module _ (h : Handed) (allowance depth : ℕ) (w : Narrow h.book) where
   refused n = let t = refused_exactly tests n in (λ e. t.0 (sym first ∙ e), λ r. first ∙ t.1 r)
 
   -- and by none exactly when each lets pass
-  pub accepted : (checked_all h allowance depth ≡ Checked.Accepted) ↔ Acceptable h allowance depth
+  pub accepted : (checked_all h allowance depth ≡ Ok tt) ↔ Acceptable h allowance depth
   accepted =
       let k = accepted_by (checked_all h allowance depth) in
       let t = through_exactly tests in (
@@ -263,6 +261,6 @@ pub fits_of : (h : Handed) → ShapedOf h → CursorInside h.place → Fits h.do
 fits_of h s i = let u = s.text_inside in record { long = s.done_long; wide = s.coming_long; within = omega arith; room = omega arith }
 
 -- what a call leaves that is accepted
-pub leaves : (h : Handed) (a d : ℕ) (l : Left) → Called h a d l → checked_all h a d ≡ Checked.Accepted
-    → RunLeaves (run_says h a d) l.done l.coming l.answer
-leaves h a d l c e = subst (λ (k : Checked). SaidBy k (run_says h a d) h.done h.coming l.done l.coming l.answer) e c.said
+pub leaves : (h : Handed) (a d : ℕ) (l : Left) → Called h a d l → checked_all h a d ≡ Ok tt
+    → IsOkAnd l.answer (RunLeaves (run_says h a d) l.done l.coming)
+leaves h a d l c e = subst (λ (k : Result ⊤ RunRefusal). SaidBy k (run_says h a d) h.done h.coming l.done l.coming l.answer) e c.said

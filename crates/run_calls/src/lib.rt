@@ -1,28 +1,27 @@
 // Nested lookups: a run of records over a text in two rows.
 #![tactic(auto)]
 
-ghost use Rattle.std.specs.Prelude.{◌≡◌, ◌≤◌, ◌<◌, length};
+ghost use Rattle.std.specs.Prelude.{◌≤◌, ◌<◌, length};
 ghost use Rattle.glyph.specs.Glyph.{limit};
 ghost use Rattle.text.specs.Text.{text_of, Fits};
 ghost use Rattle.book.specs.Book.{records_of, lookups_of};
 ghost use Rattle.run.specs.Run.{begun, chain_run, most_allowance};
 ghost use Rattle.run.specs.Deeds.{ruled};
 ghost use Rattle.run_positions.specs.Slots.{level_of, Neat};
-ghost use Rattle.run_cycle.specs.Levels.{Indexed};
 ghost use Rattle.run_refuse.specs.Refuse.{checked_match};
-ghost use Rattle.run_calls.specs.Calls.{refused_by, RunLeaves, run_says, SaidBy, Said};
+ghost use Rattle.run_calls.specs.Calls.{RunLeaves, run_says, SaidBy, Said};
 ghost use Rattle.run.specs.Repair.{Sound};
 
-use matching::{InputAnswer, InputMatch};
-use run::{Ending, Given, RunEnding, RunRefusal};
+use matching::{InputMatch, Success};
+use run::{Ending, Given, RunRefusal};
+use run_cycle::Shared;
 use run_positions::Slots;
-use run_refuse::Checked;
 use text::Place;
 
-// How the run ended, the lookups tried, where the text is parted, and the first level's positions; all 0 where it was refused.
-#[derive(Clone, Copy)]
+// How the run ended, the lookups tried, where the text is parted, and the first level's positions. A refused run has no answer, only why.
+#[derive(Clone, Copy, Debug, PartialEq, Eq)]
 pub struct RunAnswer {
-    pub ending: RunEnding,
+    pub ending: Ending,
     pub spent: u32,
     pub d: usize,
     pub idx: usize,
@@ -44,7 +43,7 @@ pub fn run(
     given: Given,
     allowance: u32,
     depth: usize,
-) -> RunAnswer
+) -> Result<RunAnswer, RunRefusal>
     ensures { Said (record {
       done = done.old;
       coming = coming.old;
@@ -57,34 +56,19 @@ pub fn run(
     }) allowance depth done.new coming.new result }
 {
     let place = Place { d, idx };
-    match run_refuse::check(done, coming, place, sets, records, allowance, depth) {
-        Checked::Refused(why) => return refuse(why),
-        Checked::Accepted => {}
-    }
-    let index = book_index::index_of(book);
-    let reads = index.reads;
-    if !reads {
-        return refuse(RunRefusal::Book);
-    }
-    let starts = index.starts;
-    let count = index.count;
+    run_refuse::check(done, coming, place, sets, records, allowance, depth)?;
+    let Some(index) = book_index::index_of(book) else {
+        return Err(RunRefusal::Book);
+    };
+    let shared = Shared {
+        book,
+        index: &index,
+        sets,
+        given,
+    };
     apply(
-        done, coming, place, sets, book, &starts, count, records, matched, given, allowance, depth,
+        done, coming, place, &shared, records, matched, allowance, depth,
     )
-}
-
-// A refused run: the number alone.
-fn refuse(why: RunRefusal) -> RunAnswer
-    ensures { result ≡ refused_by why }
-{
-    RunAnswer {
-        ending: RunEnding::Refused(why),
-        spent: 0,
-        d: 0,
-        idx: 0,
-        count: 0,
-        positions: [0u16; 64],
-    }
 }
 
 // The match is taken apart; refusal 7 unless it is a success whose places can be the first level's.
@@ -92,43 +76,34 @@ fn apply(
     done: &mut [u32],
     coming: &mut [u32],
     place: Place,
-    sets: &[u16],
-    book: &[u16],
-    starts: &[u16; 256],
-    count: usize,
+    shared: &Shared<'_>,
     records: &[u16],
     matched: InputMatch,
-    given: Given,
     allowance: u32,
     depth: usize,
-) -> RunAnswer
-    requires { Indexed book.now starts.now count × Fits done.old coming.old place × (place.idx < limit) × (allowance ≤ most_allowance) }
+) -> Result<RunAnswer, RunRefusal>
+    requires { Fits done.old coming.old place × (place.idx < limit) × (allowance ≤ most_allowance) }
     ensures { SaidBy (checked_match place.idx matched) (run_says (record {
       done = done.old;
       coming = coming.old;
       place = place;
-      sets = sets.now;
-      book = book.now;
+      sets = shared.now.sets.now;
+      book = shared.now.book.now;
       records = records.now;
       match = matched;
-      given = given;
+      given = shared.now.given;
     }) allowance depth)
         done.old coming.old done.new coming.new result }
 {
-    let answer = matched.answer;
-    let InputAnswer::Matched { end, total } = answer else {
-        return refuse(RunRefusal::Match);
+    let Ok(Success { end, total: _ }) = matched.answer else {
+        return Err(RunRefusal::Match);
     };
     let places = matched.positions;
-    let d = place.d;
-    let idx = place.idx;
-    if !run_refuse::is_level(&places, matched.count, end, idx) {
-        return refuse(RunRefusal::Match);
+    if !run_refuse::is_level(&places, matched.count, end, place.idx) {
+        return Err(RunRefusal::Match);
     }
-    let m = run_positions::open(&places, matched.count, end, idx, d);
-    go(
-        done, coming, place, sets, book, starts, count, records, m, given, allowance, depth,
-    )
+    let m = run_positions::open(&places, matched.count, end, place.idx, place.d);
+    Ok(go(done, coming, place, shared, records, m, allowance, depth))
 }
 
 // The first level and all below it; then the cells in neither part are cleared, once.
@@ -136,38 +111,30 @@ fn go(
     done: &mut [u32],
     coming: &mut [u32],
     place: Place,
-    sets: &[u16],
-    book: &[u16],
-    starts: &[u16; 256],
-    count: usize,
+    shared: &Shared<'_>,
     records: &[u16],
     m: Slots,
-    given: Given,
     allowance: u32,
     depth: usize,
 ) -> RunAnswer
-    requires { Indexed book.now starts.now count × Fits done.old coming.old place × (allowance ≤ most_allowance) × Neat m
+    requires { Fits done.old coming.old place × (allowance ≤ most_allowance) × Neat m
         × Sound 0 (length (text_of done.old coming.old place).glyphs) (level_of m) }
-    ensures { RunLeaves (chain_run (ruled given sets.now) (lookups_of book.now) depth (records_of records.now)
+    ensures { RunLeaves (chain_run (ruled shared.now.given shared.now.sets.now) (lookups_of shared.now.book.now) depth (records_of records.now)
         (record { level = level_of m; run = begun allowance (text_of done.old coming.old place) })) done.new
         coming.new result }
 {
     let s = run_step::begin(place, allowance);
-    let r = run_cycle::chain(
-        done, coming, book, starts, count, sets, records, m, s, given, depth,
-    );
+    let r = run_cycle::chain(done, coming, shared, records, m, s, depth);
     let last = r.state;
-    let level = r.level;
     let here = last.place;
     text::clear_outside(done, coming, here);
-    let ending = last.ending;
-    let positions = level.at;
+    let positions = r.level.at;
     RunAnswer {
-        ending: RunEnding::Ended(ending),
+        ending: last.ending,
         spent: last.spent,
         d: here.d,
         idx: here.idx,
-        count: level.count,
+        count: r.level.count,
         positions,
     }
 }
