@@ -227,7 +227,7 @@ fn pass_derives(r: &mut Reader) {
     }
 }
 
-/// The desk: exported functions, structs as C lays them out, and the numbers in its matches, as `Refusal::Shape => 1`.
+/// The desk: exported functions, structs as C lays them out; and the rooms' numbers, an enum's own as in `Shape = 1`, or as in `0 => Test::Equal`.
 fn read_desk(words: &[String]) -> Option<(Said, Vec<usize>)> {
     let mut said = Said::default();
     let mut r = Reader::new(words);
@@ -243,23 +243,24 @@ fn read_desk(words: &[String]) -> Option<(Said, Vec<usize>)> {
             }
             r.skip(2);
             rust_struct(&mut r, &mut said)?;
-        } else if r.peek(1) == "::" && r.peek(3) == "=>" && is_name(r.peek(0)) {
-            // The header has one list of refusals, for the matchers' and for a run's.
-            let of = if r.peek(0) == "RunRefusal" { "Refusal" } else { r.peek(0) };
-            let name = number_name(of, r.peek(2));
-            r.at += 4;
-            let at = if r.peek(0) == "Said" && r.starts(&["Said", "{", "number", ":", "0", ",", "said", ":"]) { 8 } else { 0 };
-            if let Some(value) = number(r.peek(at)) {
-                r.read.push(r.at + at);
-                // Two rooms may have a refusal of one name; it has one number.
-                if said.numbers.insert(name, value).is_some_and(|other| other != value) {
-                    return None;
+        } else if r.starts(&["pub", "enum"]) {
+            // The header has one list of refusals, for the matchers' and for a run's. Two rooms may have a refusal of one name; it has one number.
+            let of = if r.peek(2) == "RunRefusal" { "Refusal" } else { r.peek(2) };
+            r.at += 3;
+            while r.at < words.len() && r.peek(0) != "}" {
+                if r.peek(1) == "=" && is_name(r.peek(0)) {
+                    r.read.extend([r.at, r.at + 2]);
+                    let value = number(r.peek(2))?;
+                    if said.numbers.insert(number_name(of, r.peek(0)), value).is_some_and(|other| other != value) {
+                        return None;
+                    }
                 }
+                r.pass();
             }
-        } else if r.peek(0) == "==" && r.peek(2) == "{" && r.peek(4) == "::" && r.peek(6) == "}" {
-            if let Some(value) = number(r.peek(1)) {
-                r.read.extend([r.at + 1, r.at + 5]);
-                said.numbers.insert(number_name(r.peek(3), r.peek(5)), value);
+        } else if r.peek(1) == "=>" && r.peek(3) == "::" {
+            if let Some(value) = number(r.peek(0)) {
+                r.read.extend([r.at, r.at + 4]);
+                said.numbers.insert(number_name(r.peek(2), r.peek(4)), value);
             }
             r.pass();
         } else {
@@ -503,12 +504,9 @@ fn folder(path: &str, ending: &str) -> String {
     files.iter().filter(|f| f.extension().is_some_and(|e| e == ending)).map(|f| file(&f.to_string_lossy()) + "\n").collect()
 }
 
-/// Of a room's functions those that give an enum its number (`refusal_number` and the like), and `test_of`, which goes the other way.
+/// Of a room's items the enums whose variants have numbers, and what makes a test of its number.
 fn numbered(text: &str) -> String {
-    let is_one = |function: &&str| {
-        let name = function.rsplit("fn ").next().and_then(|after| after.split('(').next()).unwrap_or("");
-        name.ends_with("_number") || name == "test_of"
-    };
+    let is_one = |item: &&str| item.contains("pub enum") && item.contains(" = ") || item.contains("impl From<u8> for Test");
     text.split_inclusive("\n}\n").filter(is_one).collect()
 }
 
