@@ -45,6 +45,14 @@ pub record Grown (d r : SetDigest) (s a b : ℕ) : Type 0 where
   pub keeps : (g : ℕ) → may_have (bits_of d) g ≡ true → may_have (bits_of r) g ≡ true
   pub admits : a ≡ s → may_have (bits_of r) b ≡ true
 
+-- a pair of another set leaves it as it is
+pub grown_not : (d : SetDigest) (s a b : ℕ) → (a ≡ s → ⊥) → Grown d d s a b
+grown_not d s a b n = record { keeps = λ g e. e; admits = λ e. absurd (n e) }
+
+-- the glyph of one of the set is added
+pub grown_by : (d r : SetDigest) (s a b : ℕ) → Says r (added b (bits_of d)) → Grown d r s a b
+grown_by d r s a b h = record { keeps = λ g e. add_admits d r b g h e; admits = λ e. add_admitted d r b h }
+
 module _ (d r : SetDigest) (sets : List ℕ) (s k : ℕ) where
   step : (m p q n : Bool) → (m ≡ true → n ≡ true) → (p ≡ true → n ≡ true) → (m || (p || q)) ≡ true → (n || q) ≡ true
   step true p q n f h e = or_left n q (f refl)

@@ -289,6 +289,7 @@ fn digest_of(sets: &[u16], set: u32) -> SetDigest
 }
 
 // The digest with the glyph of a pair too, if the pair is of the set.
+#[tactic(auto, using(crate::proofs::Crossing::pairs))]
 fn with_pair(d: SetDigest, sets: &[u16], k: usize, set: u32) -> SetDigest
     requires { k < length sets.now / 2 }
     ensures { Grown d result set (get_or sets.now (2 * k) 0) (get_or sets.now (2 * k + 1) 0) }
