@@ -19,7 +19,8 @@ const BLOCK: usize = 8;
 // long ones.
 const LONG: usize = 16;
 
-// What is left of a row to cross: forward the last places before len, backward the row's first ones. `back` is a direction, a Bool in the definitions.
+// What is left of a row to cross: forward the last places before len, backward the row's first ones. `back` is a direction, a Bool in the
+// definitions.
 #[derive(Clone, Copy, Debug, PartialEq, Eq)]
 struct Stretch<'a> {
     row: &'a [u32],
