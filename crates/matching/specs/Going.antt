@@ -199,7 +199,8 @@ module _ (gs : List Glyph) (v : ℕ → ℕ → Verdict) (ok : ℕ → Bool) (id
         }
 
     pub going_done : length values ≤ i
-        → input_told gs idx (from (idx + 1) values) ≡ record { answer = Ok (record { end = next; total = total }); count = i + 1; positions = positions }
+        → input_told gs idx (from (idx + 1) values)
+        ≡ record { answer = Ok (record { end = next; total = total }); count = i + 1; positions = positions }
     unfolding takes
     going_done h =
         let e : from (idx + 1) values ≡ taken g.qs =

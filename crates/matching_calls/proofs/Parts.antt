@@ -7,6 +7,7 @@ use Rattle.verdict.specs.declared.Table.{Table}
 use Rattle.matching.specs.Matchers.{backward_glyphs}
 use Rattle.matching.specs.Ready.{InputReady, backward_row}
 use Rattle.matching_calls.specs.Lines.{InputAcceptable}
+use Rattle.matching_calls.specs.Table.{ahead_fits, back_fits}
 
 module _ (gs text : List Glyph) (n k : ℕ) (part : text ≡ take n gs) (inside : n ≤ length gs) where
   pub part_place : k < n → k < length text
@@ -24,3 +25,8 @@ input_ready done d coming len idx sets values text part a =
 pub backward_inside : (table : Table) (done coming : List Glyph) (d idx : ℕ) → d ≤ length done → idx ≤ length coming
     → backward_row table done d coming idx ≡ backward_glyphs table (take d done) (take idx coming)
 backward_inside table done coming d idx h k = rw (le-ltb (length done) d h, le-ltb (length coming) idx k)
+
+-- what the proofs of the two contexts' calls go by
+pub ruleset ahead_laws = (ahead_fits, part_place, part_end)
+
+pub ruleset back_laws = (back_fits, part_place, backward_inside)

@@ -88,6 +88,7 @@ module _ {X : Type 0} (done : List ℕ) (d : ℕ) (coming : List ℕ) (len idx :
   fit_by (Err why) end total e m = let z : ◌≡◌ {A = ℕ} 0 1 = cc in absurd (omega arith)
 
   -- of any call, whatever the words
-  pub total_most : (end total : ℕ) → (input_of done d coming len idx lookup sets test values).answer ≡ Ok (record { end = end; total = total }) → total ≤ 16320
+  pub total_most : (end total : ℕ)
+      → (input_of done d coming len idx lookup sets test values).answer ≡ Ok (record { end = end; total = total }) → total ≤ 16320
   unfolding input_of
   total_most end total m = fit_by (input_fit done d coming len idx sets (length values)) end total refl m

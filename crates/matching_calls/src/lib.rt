@@ -35,7 +35,7 @@ pub fn match_input(
 }
 
 // The values against the glyphs from a start on.
-#[tactic(auto, using(crate::specs::Table::ahead_fits, crate::proofs::Parts::part_place, crate::proofs::Parts::part_end), unfolding(crate::specs::Calls::ahead_of))]
+#[tactic(auto, using(crate::proofs::Parts::ahead_laws), unfolding(crate::specs::Calls::ahead_of))]
 pub fn match_lookahead(
     done: &[u32],
     d: usize,
@@ -68,7 +68,7 @@ pub fn match_lookahead(
 }
 
 // The values against the glyphs of the backward row, from its end.
-#[tactic(auto, using(crate::specs::Table::back_fits, crate::proofs::Parts::part_place, crate::proofs::Parts::backward_inside), unfolding(crate::specs::Calls::back_of))]
+#[tactic(auto, using(crate::proofs::Parts::back_laws), unfolding(crate::specs::Calls::back_of))]
 pub fn match_backtrack<'a>(
     done: &'a [u32],
     d: usize,

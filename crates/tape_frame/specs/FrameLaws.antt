@@ -121,7 +121,8 @@ has_whole : (l : List ℕ) (f : Frame) (table : Table) (w : Bool) → spells l �
 has_whole l f table true s k e h = record { spelled = s; table = table; tag = k; full = e; same = cc }
 has_whole l f table false s k e h = absurd (not_that f h)
 
-has_kind : (l : List ℕ) (f : Frame) (k : Option Table) → spells l ≡ true → table_kind (bytes_of l) ≡ k → of_kind k (bytes_of l) ≡ a_frame f → LineHas l f
+has_kind : (l : List ℕ) (f : Frame) (k : Option Table) → spells l ≡ true → table_kind (bytes_of l) ≡ k → of_kind k (bytes_of l) ≡ a_frame f
+    → LineHas l f
 has_kind l f (Some table) s e h = has_whole l f table (is_whole (bytes_of l)) s e refl h
 has_kind l f None s e h = absurd (not_that f h)
 
