@@ -1,5 +1,5 @@
 -- Reading structs loses nothing, an array is filled record after record, and what is kept of a list of records is refused or run as the whole list.
-use Rattle.std.specs.Prelude.{◌≡◌, Bool, ◌||◌, ℕ, suc, ◌+◌, ◌*◌, ◌%◌, ◌≤◌, ◌<◌, ltb, get_or, set, take}
+use Rattle.std.specs.Prelude.{◌≡◌, Bool, ◌||◌, ℕ, suc, ◌+◌, ◌*◌, ◌%◌, ◌≤◌, ◌<◌, ⊤, Result, Err, ltb, get_or, set, take}
 use Rattle.std.proofs.Math.Path.{refl, subst}
 use Rattle.std.proofs.Common.{sym, ap, ◌∙◌, add-one, arith, length-set, take-suc, take-suc-set}
 use Rattle.std.proofs.Math.Bool.{true, false}
@@ -15,9 +15,9 @@ use Rattle.book.specs.Book as book
 use Rattle.matching.specs.declared.InputMatch.{InputMatch}
 use Rattle.run.specs.declared.Given.{Given}
 use Rattle.run.specs.Run.{Stage}
+use Rattle.run.specs.declared.RunRefusal.{RunRefusal}
 use Rattle.run.specs.declared.RunRefusal.TheVariants.{Shape}
 use Rattle.run_calls.specs.declared.RunAnswer.{RunAnswer}
-use Rattle.run_refuse.specs.declared.Checked.{Checked}
 use Rattle.run_refuse.specs.Refuse.{bad_records, checked_first}
 use Rattle.run_calls.specs.Calls.{Handed, checked_all, SaidBy, Said}
 use Rattle.run_record_structs.specs.declared.Record.{Record}
@@ -106,7 +106,7 @@ or_true true = refl
 or_true false = refl
 
 -- over 16 records is 1, whatever else is wrong
-many_refused : (h : Handed) (allowance depth : ℕ) → 2 * most_records < length h.records → checked_all h allowance depth ≡ Checked.Refused Shape
+many_refused : (h : Handed) (allowance depth : ℕ) → 2 * most_records < length h.records → checked_all h allowance depth ≡ Err Shape
 unfolding checked_all checked_first
 many_refused h allowance depth l = rw (lt-ltb (2 * most_records) (length h.records) l, or_true, or_true, or_true)
 
@@ -116,7 +116,7 @@ pub filled_fits : (rs : List Record) (p : Pairs) → Filled (take (pairs_kept (l
 filled_fits rs p f = let k = kept_few (length rs) in (omega (arith, f.number, length-take-le (pairs_kept (length rs)) rs k.0, k.1), f.room)
 
 module _ (done coming : List ℕ) (place : Place) (sets book : List ℕ) (m : InputMatch) (given : Given) (allowance depth : ℕ) (done' coming' : List ℕ)
-    (r : RunAnswer) where
+    (r : Result RunAnswer RunRefusal) where
   -- what the run on these words says
   abbrev handed : List ℕ → Handed
   handed words =
@@ -126,11 +126,11 @@ module _ (done coming : List ℕ) (place : Place) (sets book : List ℕ) (m : In
   SaidOf words = Said (handed words) allowance depth done' coming' r
 
   -- two refusals by 1 say the same, whatever the runs would be
-  refused_same : (v v' : Stage) (c c' : Checked) → c ≡ Checked.Refused Shape → c' ≡ Checked.Refused Shape → SaidBy c v done coming done' coming' r
+  refused_same : (v v' : Stage) (c c' : Result ⊤ RunRefusal) → c ≡ Err Shape → c' ≡ Err Shape → SaidBy c v done coming done' coming' r
       → SaidBy c' v' done coming done' coming' r
   refused_same v v' c c' e e' said =
-      subst (λ (k : Checked). SaidBy k v' done coming done' coming' r) (sym e')
-      (subst (λ (k : Checked). SaidBy k v done coming done' coming' r) e said)
+      subst (λ (k : Result ⊤ RunRefusal). SaidBy k v' done coming done' coming' r) (sym e')
+      (subst (λ (k : Result ⊤ RunRefusal). SaidBy k v done coming done' coming' r) e said)
 
   -- the records that are kept are refused by 1, or run, as the whole list
   pub said_kept : (rs : List Record) → SaidOf (record_words (take (pairs_kept (length rs)) rs)) → SaidOf (record_words rs)

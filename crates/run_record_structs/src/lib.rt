@@ -7,7 +7,7 @@ ghost use Rattle.run_record_structs.specs.Records.{record_words};
 ghost use Rattle.run_record_structs.specs.Array.{most_pairs, pairs_kept, with_pair, Filled};
 
 use matching::InputMatch;
-use run::Given;
+use run::{Given, RunRefusal};
 use run_calls::RunAnswer;
 
 // Which position of the match, and which lookup of the book.
@@ -33,7 +33,7 @@ pub fn run(
     given: Given,
     allowance: u32,
     depth: usize,
-) -> RunAnswer
+) -> Result<RunAnswer, RunRefusal>
     ensures { Said (record {
       done = done.old;
       coming = coming.old;
