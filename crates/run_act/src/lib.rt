@@ -12,6 +12,9 @@ use book::Entry;
 use run::Ending;
 use run_step::State;
 
+// That the rows fit the place and a glyph is at the cursor is a clause of each: a struct that keeps it would hold both lent rows beside the state, and
+// be taken apart by every step of a run, which hands its state back by value.
+
 // Kind 1 at the cursor.
 #[tactic(auto, using(crate::specs::Laws::inside))]
 fn act_one(done: &mut [u32], coming: &[u32], s: State, from: u32, to: u32) -> State
