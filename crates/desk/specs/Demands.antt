@@ -12,7 +12,7 @@ use Rattle.book.specs.Encode.{Narrow}
 use Rattle.run.specs.declared.RunRefusal.{RunRefusal}
 use Rattle.run.specs.Numbers.{run_refusal_number}
 use Rattle.run_calls.specs.declared.RunAnswer.{RunAnswer}
-use Rattle.run_calls.specs.Calls.{Handed, checked_all, SaidBy, Said, run_says, run_reply, place_by}
+use Rattle.run_calls.specs.Calls.{Handed, checked_all, SaidBy, Said, run_says, run_reply, answer_place}
 use Rattle.run_calls.specs.Lines.{Limited, Beyond}
 use Rattle.run_calls.specs.Handed.{SameText, Left, place_left, Called, left_number, Ends, run_lines, Acceptable}
 use Rattle.run_calls.specs.Replies.{ending_ends, refusal_not_end, leaves_number}
@@ -94,7 +94,7 @@ number_is (Ok a) = refl
 number_is (Err why) = refl
 
 -- d and idx, which are 0 of a refusal
-place_is : (r : Result RunAnswer RunRefusal) → place_by r ≡ record { d = (ran_of r).d; idx = (ran_of r).idx }
+place_is : (r : Result RunAnswer RunRefusal) → answer_place r ≡ record { d = (ran_of r).d; idx = (ran_of r).idx }
 place_is (Ok a) = refl
 place_is (Err why) = refl
 
