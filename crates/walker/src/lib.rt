@@ -86,6 +86,7 @@ pub fn step(
 }
 
 // The match after n others (after none: the first), a step each; or the answer of the first step that finds none.
+#[tactic(auto, using(crate::proofs::Turns::turns))]
 pub fn nth(
     row: &[u32],
     len: usize,
