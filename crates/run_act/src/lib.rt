@@ -12,8 +12,8 @@ use book::Entry;
 use run::Ending;
 use run_step::State;
 
-// That the rows fit the place and a glyph is at the cursor is a clause of each: a struct that keeps it would hold both lent rows beside the state, and
-// be taken apart by every step of a run, which hands its state back by value.
+// That the rows fit the place and a glyph is at the cursor is a clause of each: a struct that keeps it would hold both lent rows beside the state,
+// and be taken apart by every step of a run, which hands its state back by value.
 
 // Kind 1 at the cursor.
 #[tactic(auto, using(crate::specs::Laws::inside))]

@@ -25,7 +25,7 @@ pub struct State {
 }
 
 // A record before its lookup is tried: whether it is, and what the run and the level are then.
-// No Option or Result: both values are there in both cases. State and level stay two parameters, since lookups and a level's end take the state alone.
+// No Option or Result: both values are there in both cases. State and level stay two parameters: lookups and a level's end take the state alone.
 #[derive(Clone, Copy, Debug, PartialEq, Eq)]
 pub struct Ready {
     pub go: bool,
