@@ -111,9 +111,9 @@ fn empty_lines(n: usize) -> String {
 }
 
 fn feed(piece: &[u8], room: usize) -> String {
-    let mut kept = vec![0; tape_answer::MOST_KEPT];
+    let mut kept = tape_feed::Kept::new();
     let mut out = vec![0; room];
-    let fed = tape_feed::feed(piece, 0, &mut kept, 0, &mut out, 0);
+    let fed = tape_feed::feed(piece, 0, &mut kept, &mut out, 0);
     format!("place {}, {:?}", fed.at, String::from_utf8_lossy(&out[..fed.written]))
 }
 

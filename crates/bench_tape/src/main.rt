@@ -1,189 +1,142 @@
 // The bench tape's program: frames on standard input, a line each; answers on standard output. Both go in large pieces, and what
 // is answered in a piece is written before the next is read. What a line is answered is the library's, `tape_feed`. No contract can
-// say what is read or written: those here say what stands in the slices that a read has filled and that are handed to a write.
+// say what is read; what is written is said of any writer whose bytes are known.
 //
 // Where answers can't be written, the program says so on standard error, once, and then writes no more and reads no more: an answer
 // is told from others by its place alone, and behind a gap each would be taken for another line's.
 #![tactic(auto)]
 
-ghost use Rattle.std.specs.Prelude.{◌≡◌, false, ◌≤◌, ◌<◌, length, take};
+ghost use Rattle.std.specs.Prelude.{◌≡◌, [], ◌≤◌, ◌<◌, length, take, IfOk, OnOk};
+ghost use Rattle.std.specs.Io.KnownBytes.{Appends};
 ghost use Rattle.tape_frame.specs.Put.{Puts};
 ghost use Rattle.tape_answer.specs.Tape.{last_answer};
-ghost use Rattle.tape_answer.specs.Feeding.{most_kept, line_left};
-ghost use Rattle.bench_tape.specs.Taking.{space, PartTaken, LineOf};
+ghost use Rattle.bench_tape.specs.Taking.{space, PartTaken, PieceTaken, Answered, TapeOf};
 
-use std::io::{Read, Stdin};
-use tape_answer::MOST_KEPT;
-
-// Standard output and standard error, by number.
-const STDOUT: i32 = 1;
-
-const STDERR: i32 = 2;
+use std::io::{Read, Result, Write};
+use tape_feed::Kept;
 
 // Bytes of a read, and of answers that are written at once.
 const SPACE: usize = 65536;
 
-// How far a piece is taken: the place in it, the bytes kept of the line so far, the bytes of answers that were handed to a write, and
-// whether all answers were written.
-#[derive(Clone, Copy)]
-pub struct Part {
-    pub at: usize,
-    pub kept: usize,
-    pub written: usize,
-    pub sent: bool,
-}
-
-// What is left of what was taken: the bytes kept of the line so far, and whether all answers were written.
-#[derive(Clone, Copy)]
-pub struct Left {
-    pub kept: usize,
-    pub sent: bool,
-}
-
-// The same of a read, with the bytes that were read: 0 where there are no more.
-#[derive(Clone, Copy)]
-pub struct Turn {
-    pub read: usize,
-    pub kept: usize,
-    pub sent: bool,
-}
-
-// Writes the first n bytes, where all answers before them were written, and says whether these are too.
-fn send(out: &[u8; SPACE], n: usize, sent: bool) -> bool
-    requires { n ≤ space }
-    ensures { sent ≡ false → result ≡ false }
+// Writes answers, or says that they can't be written.
+fn send<W: Write, E: Write>(answers: &[u8], stdout: &mut W, stderr: &mut E) -> Result<()>
+    ensures { OnOk result (Appends (W.contents stdout.old) (W.contents stdout.new) answers.now) }
 {
-    if sent {
-        let all = &out[..];
-        if io::write_all(STDOUT, &all[0..n]) {
-            return true;
-        }
-        io::write_all(STDERR, b"bench_tape: answers could not be written\n");
+    if let Err(why) = stdout.write_all(answers) {
+        let _ = stderr.write_all(b"bench_tape: answers could not be written\n");
+        return Err(why);
     }
-    false
+    Ok(())
 }
 
-// A piece from a place on, as far as its answers have room. They are written.
-fn take_part(
+// A piece from a place on, as far as its answers have room. They are written. The place behind it.
+fn take_part<W: Write, E: Write>(
     piece: &[u8],
     from: usize,
-    kept: &mut [u8; MOST_KEPT],
-    n: usize,
+    kept: &mut Kept,
     out: &mut [u8; SPACE],
-    sent: bool,
-) -> Part
-    requires { (from < length piece.now) × (n ≤ most_kept) }
-    ensures part_taken { PartTaken piece.now from (take n kept.old) result kept.new out.new }
-    ensures sent_value { sent ≡ false → result.sent ≡ false }
+    stdout: &mut W,
+    stderr: &mut E,
+) -> Result<usize>
+    requires { from < length piece.now }
+    ensures { IfOk result (λ at. PartTaken piece.now from kept.old at kept.new (W.contents stdout.old) (W.contents stdout.new)) }
 {
-    let fed = tape_feed::feed(piece, from, kept, n, out, 0);
-    let written = fed.written;
-    let all = send(out, written, sent);
-    Part {
-        at: fed.at,
-        kept: fed.kept,
-        written,
-        sent: all,
-    }
+    let fed = tape_feed::feed(piece, from, kept, out, 0);
+    send(&out[..fed.written], stdout, stderr)?;
+    Ok(fed.at)
 }
 
 // A whole piece, a part at a time.
-fn take_piece(piece: &[u8], kept: &mut [u8; MOST_KEPT], n: usize, out: &mut [u8; SPACE]) -> Left
-    requires { n ≤ most_kept }
-    ensures kept_after { take result.kept kept.new ≡ line_left (take n kept.old) piece.now }
-    ensures kept_le_most_kept { result.kept ≤ most_kept }
+fn take_piece<W: Write, E: Write>(
+    piece: &[u8],
+    kept: &mut Kept,
+    out: &mut [u8; SPACE],
+    stdout: &mut W,
+    stderr: &mut E,
+) -> Result<()>
+    ensures { OnOk result (PieceTaken piece.now kept.old kept.new (W.contents stdout.old) (W.contents stdout.new)) }
 {
     let mut at = 0;
-    let mut held = n;
-    let mut sent = true;
     while at < piece.len() {
-        let part = take_part(piece, at, kept, held, out, sent);
-        at = part.at;
-        held = part.kept;
-        sent = part.sent;
+        at = take_part(piece, at, kept, out, stdout, stderr)?;
     }
-    Left { kept: held, sent }
+    Ok(())
 }
 
-// One read, and the answers to the lines that it ends. A read that fails counts as the end of the input.
-fn one_read(
-    stdin: &mut Stdin,
+// One read, and the answers to the lines that it ends; how many bytes were read. A read that fails counts as the end of the input.
+fn one_read<R: Read, W: Write, E: Write>(
+    stdin: &mut R,
     input: &mut [u8; SPACE],
-    kept: &mut [u8; MOST_KEPT],
-    n: usize,
+    kept: &mut Kept,
     out: &mut [u8; SPACE],
-) -> Turn
-    requires { n ≤ most_kept }
-    ensures kept_after { take result.kept kept.new ≡ line_left (take n kept.old) (take result.read input.new) }
-    ensures read_le_space { (result.read ≤ space) × (result.kept ≤ most_kept) }
+    stdout: &mut W,
+    stderr: &mut E,
+) -> Result<usize>
+    ensures { IfOk result (λ read. PieceTaken (take read input.new) kept.old kept.new (W.contents stdout.old) (W.contents stdout.new)) }
 {
     let read = stdin.read(input).unwrap_or(0);
-    let bytes = &input[..];
-    let left = take_piece(&bytes[0..read], kept, n, out);
-    Turn {
-        read,
-        kept: left.kept,
-        sent: left.sent,
-    }
+    take_piece(&input[..read], kept, out, stdout, stderr)?;
+    Ok(read)
 }
 
-// Reads to the end, or until answers can't be written. What is left is a last line that lacks its 0A.
-fn read_all(
-    stdin: &mut Stdin,
+// Reads to the end, and answers all lines but a last one that lacks its 0A, which is left.
+fn read_all<R: Read, W: Write, E: Write>(
+    stdin: &mut R,
     input: &mut [u8; SPACE],
-    kept: &mut [u8; MOST_KEPT],
+    kept: &mut Kept,
     out: &mut [u8; SPACE],
-) -> Left
-    ensures line_of { LineOf (take result.kept kept.new) }
-    ensures kept_le_most_kept { result.kept ≤ most_kept }
+    stdout: &mut W,
+    stderr: &mut E,
+) -> Result<()>
+    requires { kept.old ≡ [] }
+    ensures { OnOk result (Answered kept.new (W.contents stdout.old) (W.contents stdout.new)) }
 {
-    let mut n = 0;
-    let mut turns = u64::MAX;
-    while turns > 0 {
-        let t = one_read(stdin, input, kept, n, out);
-        n = t.kept;
-        if (t.read == 0) | !t.sent {
-            return Left {
-                kept: n,
-                sent: t.sent,
-            };
+    for _ in 0..u64::MAX {
+        let read = one_read(stdin, input, kept, out, stdout, stderr)?;
+        if read == 0 {
+            break;
         }
-        turns -= 1;
     }
-    Left {
-        kept: n,
-        sent: true,
-    }
+    Ok(())
 }
 
 // The answer to a last line that lacks its 0A, and where it ends: no line, no answer.
-fn answer_last(kept: &[u8; MOST_KEPT], n: usize, out: &mut [u8; SPACE]) -> usize
-    requires { n ≤ most_kept }
-    ensures puts { Puts out.old 0 (last_answer (take n kept.now)) out.new result }
+#[tactic(auto, using(crate::specs::TakingLaws::last_none))]
+fn answer_last(line: &[u8], out: &mut [u8; SPACE]) -> usize
+    ensures puts { Puts out.old 0 (last_answer line.now) out.new result }
     ensures upper_bound { result ≤ space }
 {
-    if n == 0 {
+    if line.is_empty() {
         return 0;
     }
-    let line = &kept[..];
-    tape_feed::answer_line(&line[0..n], out, 0)
+    tape_feed::answer_line(line, out, 0)
 }
 
-fn run(
-    stdin: &mut Stdin,
+// The whole tape.
+fn run<R: Read, W: Write, E: Write>(
+    stdin: &mut R,
     input: &mut [u8; SPACE],
-    kept: &mut [u8; MOST_KEPT],
     out: &mut [u8; SPACE],
-) {
-    let left = read_all(stdin, input, kept, out);
-    let end = answer_last(kept, left.kept, out);
-    send(out, end, left.sent);
+    stdout: &mut W,
+    stderr: &mut E,
+) -> Result<()>
+    ensures { OnOk result (TapeOf (W.contents stdout.old) (W.contents stdout.new)) }
+{
+    let mut kept = Kept::new();
+    read_all(stdin, input, &mut kept, out, stdout, stderr)?;
+    let end = answer_last(kept.bytes(), out);
+    send(&out[..end], stdout, stderr)
 }
 
 fn main(rt: HostRuntime) {
-    let mut stdin = rt.stdin();
-    let mut input = io::large_buffer();
-    let mut kept = [0u8; MOST_KEPT];
-    let mut out = io::large_buffer();
-    run(&mut stdin, &mut input, &mut kept, &mut out);
+    let mut input = [0; SPACE];
+    let mut out = [0; SPACE];
+    // That answers can't be written was said; the program's status stays 0.
+    let _ = run(
+        &mut rt.stdin(),
+        &mut input,
+        &mut out,
+        &mut rt.stdout(),
+        &mut rt.stderr(),
+    );
 }

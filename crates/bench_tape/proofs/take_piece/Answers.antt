@@ -1,13 +1,9 @@
--- What is left of the piece leaves the line that the whole piece does. Assumes nothing.
-use Rattle.std.proofs.Common.{List, drop, drop_of_length-le, length, take, ℕ, ◌∙◌, ◌≡◌, ◌≤◌}
-use Rattle.tape_answer.specs.Feeding.{line_left}
+-- What is taken so far and the next part is what is taken after it; at the end it is the piece. Assumes nothing.
+use Rattle.bench_tape.specs.TakingLaws.{taken_more, taken_all}
 use Rattle.bench_tape.proofs.take_piece.Goals as goal
 
--- at the piece's end nothing is left
-line_end : (piece : List ℕ) (at : ℕ) (line : List ℕ) → length piece ≤ at → line ≡ line_left line (drop at piece)
-unfolding line_left
-line_end piece at line h = rw (drop_of_length-le piece {i = at} h)
+pub loop-at-preserved : goal.loop-at-preserved
+loop-at-preserved g c = taken_more _ _ _ _ _ _ c.loop-at.invariant _ _ _ c.in_ok-at.ensures
 
-pub returns-clause-kept_after : goal.returns-clause-kept_after
-returns-clause-kept_after c = let l = c.loop-at in
-    line_end c.args.piece.now l.at (take l.held l.kept) c.loop-at-test.false ∙ l.invariant.2
+pub returns : goal.returns
+returns g c = taken_all _ _ _ _ _ _ c.loop-at.invariant c.loop-at-test.false

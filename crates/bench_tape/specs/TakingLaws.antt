@@ -1,0 +1,98 @@
+-- Writes after each other, and a tape piece by piece: what is written of it is the answers to it.
+use Rattle.std.specs.Prelude.{ℕ, ◌≤◌, ◌≡◌, refl, List, [], ◌∷◌, ◌++◌, Option, Some, None, Result, Ok, Err, OnOk, length, take, drop}
+use Rattle.std.specs.Io.KnownBytes.{Appends}
+use Rattle.std.proofs.Common.{sym, ap, ◌∙◌, append_assoc, append-nil, drop_of_length-le, arith}
+use Rattle.tape_frame.specs.Put.{Puts, put_none, front_put}
+use Rattle.tape_answer.specs.Feeding.{line_left, answers_in}
+use Rattle.tape_answer.specs.Tape.{last_answer, tape_of}
+use Rattle.tape_answer.specs.Pieces.{line_pieces, answers_pieces, tape_whole}
+use Rattle.bench_tape.specs.Taking.{PartTaken, PieceTaken, Answered, TapeOf}
+
+-- nothing written
+pub writes_none : (held : Option (List ℕ)) → Appends held held []
+writes_none None = record {}
+writes_none (Some xs) = sym (append-nil xs)
+
+pub writes_then : (a b c : Option (List ℕ)) (s t : List ℕ) → Appends a b s → Appends b c t → Appends a c (s ++ t)
+writes_then None b c s t p q = record {}
+writes_then (Some xs) None c s t p q = absurd p
+writes_then (Some xs) (Some ys) None s t p q = absurd q
+writes_then (Some xs) (Some ys) (Some zs) s t p q = q ∙ ap (λ (l : List ℕ). l ++ t) p ∙ append_assoc xs s t
+
+writes_as : (a b : Option (List ℕ)) (s t : List ℕ) → s ≡ t → Appends a b s → Appends a b t
+writes_as a b s t e p = rw (← e) p
+
+-- no line, nothing stored
+pub last_none : (out line : List ℕ) → length line ≡ 0 → Puts out 0 (last_answer line) out 0
+last_none out [] e = record { stored = sym (put_none out 0); ends = refl }
+last_none out (b ∷ line) e = absurd (omega arith)
+
+-- what an answer from the front says is what stands there
+pub front_stored : (out s out' : List ℕ) (end : ℕ) → Puts out 0 s out' end → end ≤ length out → take end out' ≡ s
+front_stored out s out' end p h = ap (take end) p.stored ∙ front_put out s end (omega (arith, p.ends)) (omega (arith, p.ends))
+
+-- what follows from what holds where a call succeeds
+pub on_ok : {T E P Q : Type 0} (r : Result T E) → OnOk r P → (P → Q) → OnOk r Q
+on_ok (Ok x) h f = f h
+on_ok (Err e) h f = h
+
+-- ---- a piece, a part at a time
+
+-- what was taken of a piece so far: its answers and those to the rest are the piece's
+pub record TakenSo (piece line : List ℕ) (at : ℕ) (line' : List ℕ) (held held' : Option (List ℕ)) : Type 0 where
+  pub within : at ≤ length piece
+  pub written : List ℕ
+  pub writes : Appends held held' written
+  pub answers : written ++ answers_in line' (drop at piece) ≡ answers_in line piece
+  pub leaves : line_left line' (drop at piece) ≡ line_left line piece
+
+pub taken_none : (piece line : List ℕ) (held : Option (List ℕ)) → TakenSo piece line 0 line held held
+taken_none piece line held = record { within = omega arith; written = []; writes = writes_none held; answers = refl; leaves = refl }
+
+pub taken_more : (piece line : List ℕ) (at : ℕ) (line' : List ℕ) (a b : Option (List ℕ)) → TakenSo piece line at line' a b
+    → (at' : ℕ) (line'' : List ℕ) (c : Option (List ℕ)) → PartTaken piece at line' at' line'' b c → TakenSo piece line at' line'' a c
+taken_more piece line at line' a b so at' line'' c p = record {
+  within = p.within;
+  written = so.written ++ p.written;
+  writes = writes_then a b c so.written p.written so.writes p.writes;
+  answers =
+      append_assoc so.written p.written (answers_in line'' (drop at' piece))
+      ∙ ap (λ (l : List ℕ). so.written ++ l) p.answers
+      ∙ so.answers;
+  leaves = p.leaves ∙ so.leaves;
+}
+
+pub taken_all : (piece line : List ℕ) (at : ℕ) (line' : List ℕ) (a b : Option (List ℕ)) → TakenSo piece line at line' a b → length piece ≤ at
+    → PieceTaken piece line line' a b
+unfolding line_left answers_in
+taken_all piece line at line' a b so h =
+    let none : drop at piece ≡ [] = drop_of_length-le piece {i = at} h in
+    record {
+      writes = writes_as a b so.written (answers_in line piece)
+          (sym (append-nil so.written) ∙ rw none at so.answers) so.writes;
+      leaves = rw none at so.leaves;
+    }
+
+-- ---- a tape, a piece at a time
+
+pub answered_none : (held : Option (List ℕ)) → Answered [] held held
+unfolding line_left answers_in
+answered_none held = record { input = []; writes = writes_none held; left = refl }
+
+pub answered_more : (line : List ℕ) (a b : Option (List ℕ)) → Answered line a b
+    → (piece line' : List ℕ) (c : Option (List ℕ)) → PieceTaken piece line line' b c → Answered line' a c
+answered_more line a b so piece line' c p = record {
+  input = so.input ++ piece;
+  writes = writes_as a c (answers_in [] so.input ++ answers_in line piece) (answers_in [] (so.input ++ piece))
+      (ap (λ (l : List ℕ). answers_in [] so.input ++ answers_in l piece) so.left ∙ sym (answers_pieces [] so.input piece))
+      (writes_then a b c (answers_in [] so.input) (answers_in line piece) so.writes p.writes);
+  left = p.leaves ∙ ap (λ (l : List ℕ). line_left l piece) so.left ∙ sym (line_pieces [] so.input piece);
+}
+
+pub tape_answered : (line : List ℕ) (a b : Option (List ℕ)) → Answered line a b → (c : Option (List ℕ)) → Appends b c (last_answer line) → TapeOf a c
+tape_answered line a b so c p = record {
+  input = so.input;
+  writes = writes_as a c (answers_in [] so.input ++ last_answer line) (tape_of so.input)
+      (ap (λ (l : List ℕ). answers_in [] so.input ++ last_answer l) so.left ∙ tape_whole so.input)
+      (writes_then a b c (answers_in [] so.input) (last_answer line) so.writes p);
+}
