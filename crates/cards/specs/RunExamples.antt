@@ -1,11 +1,10 @@
 -- Examples of our own of runs: repair at its edges, and what an ending below leaves to the levels above (01, "Records over a text"). What is
 -- wanted was worked out by hand from that section and A's `apply_lookup`. They run on texts, which compute quicker than rows; refusals 11 and 7
 -- are included.
-use Rattle.std.specs.Prelude.{false, List, [], ◌∷◌, ◌++◌, map, ℕ, ◌-◌, length, replicate}
+use Rattle.std.specs.Prelude.{false, List, [], ◌∷◌, ◌++◌, map, ℕ, ◌-◌, ⊤, Result, Ok, Err, length, replicate}
 use Rattle.glyph.specs.declared.Glyph.{Glyph}
 use Rattle.glyph.specs.Glyph.{limit}
 use Rattle.glyph.specs.Signs.{glyph}
-use Rattle.matching.specs.declared.InputAnswer.{InputAnswer}
 use Rattle.matching.specs.declared.InputMatch.{InputMatch}
 use Rattle.matching.specs.Answers.{slotted}
 use Rattle.book.specs.Book.{Record, Lookup, Kind1, Kind2, Kind3, lookups_of}
@@ -14,7 +13,7 @@ use Rattle.run.specs.declared.Given.{Given}
 use Rattle.run.specs.Numbers.{ending_number, run_refusal_number}
 use Rattle.run.specs.Run.{Stage, run_on}
 use Rattle.run.specs.Deeds.{ruled}
-use Rattle.run_refuse.specs.declared.Checked.{Checked}
+use Rattle.run.specs.declared.RunRefusal.{RunRefusal}
 use Rattle.run_refuse.specs.Refuse.{checked_match}
 use Rattle.run_calls.specs.Calls.{then, checked_book}
 use Rattle.cards.specs.Card.{Card}
@@ -61,14 +60,14 @@ settings_off = record { zwnj = false; zwj = false; syllables = false; mask = 1 }
 
 abbrev matched : Question → InputMatch
 matched q = record {
-  answer = InputAnswer.Matched q.end (length q.positions);
+  answer = Ok (record { end = q.end; total = length q.positions });
   count = length q.positions;
   positions = slotted q.positions;
 }
 
-abbrev shows : Checked → Stage → List (List ℕ)
-shows (Checked.Refused why) v = (run_refusal_number why ∷ []) ∷ []
-shows Checked.Accepted v = leaves (left_by v)
+abbrev shows : Result ⊤ RunRefusal → Stage → List (List ℕ)
+shows (Err why) v = (run_refusal_number why ∷ []) ∷ []
+shows (Ok ok) v = leaves (left_by v)
 
 abbrev ran : Question → List (List ℕ)
 ran q =

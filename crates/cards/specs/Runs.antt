@@ -1,13 +1,12 @@
 -- Cards K11 to K14 of 01: runs of one record over three glyphs that end the row. Each answer is its number, the text's ids, the positions, and d with
 -- the number spent.
-use Rattle.std.specs.Prelude.{false, List, [], ◌∷◌, ◌++◌, map, ℕ, ◌+◌, ◌-◌, ◌*◌, length, replicate}
+use Rattle.std.specs.Prelude.{false, List, [], ◌∷◌, ◌++◌, map, ℕ, ◌+◌, ◌-◌, ◌*◌, ⊤, Result, Ok, Err, length, replicate}
 use Rattle.glyph.specs.declared.Glyph.{Glyph}
 use Rattle.glyph.specs.Glyph.{words, limit}
-use Rattle.matching.specs.declared.InputAnswer.{InputAnswer}
 use Rattle.matching.specs.declared.InputMatch.{InputMatch}
 use Rattle.matching.specs.Answers.{slotted}
 use Rattle.run.specs.Run.{Stage}
-use Rattle.run_refuse.specs.declared.Checked.{Checked}
+use Rattle.run.specs.declared.RunRefusal.{RunRefusal}
 use Rattle.run.specs.Numbers.{ending_number, run_refusal_number}
 use Rattle.run_calls.specs.Calls.{Handed, checked_all, run_says}
 use Rattle.cards.specs.Card.{Card}
@@ -24,15 +23,15 @@ abbrev three : List ℕ
 three = replicate (words * cursor) 0 ++ (letter 1 ++ letter 2 ++ letter 3)
 
 abbrev matched : InputMatch
-matched = record { answer = InputAnswer.Matched limit 3; count = 3; positions = slotted (cursor ∷ (cursor + 1) ∷ (cursor + 2) ∷ []) }
+matched = record { answer = Ok (record { end = limit; total = 3 }); count = 3; positions = slotted (cursor ∷ (cursor + 1) ∷ (cursor + 2) ∷ []) }
 
 -- one lookup of kind 2, which turns 2 into these ids
 abbrev turning : List ℕ → List ℕ
 turning ids = 2 ∷ 0 ∷ 0 ∷ (2 + length ids) ∷ 2 ∷ length ids ∷ ids
 
-abbrev shows : Checked → Stage → List (List ℕ)
-shows (Checked.Refused why) v = (run_refusal_number why ∷ []) ∷ []
-shows Checked.Accepted v =
+abbrev shows : Result ⊤ RunRefusal → Stage → List (List ℕ)
+shows (Err why) v = (run_refusal_number why ∷ []) ∷ []
+shows (Ok ok) v =
     (ending_number v.run.tally.ending ∷ []) ∷ map (λ (g : Glyph). g.id) v.run.text.glyphs ∷ v.level.positions ∷
     (v.run.text.cursor ∷ v.run.tally.spent ∷ []) ∷ []
 
