@@ -11,21 +11,24 @@ use rule_digest::RuleSetDigest;
 pub extern "C" fn cb_digest_new(masks: &mut [u64; 3])
     ensures { Says (digest_of masks.new) none_set }
 {
-    *masks = SetDigest::new().masks;
+    let m = SetDigest::new().masks;
+    *masks = m;
 }
 
 #[unsafe(no_mangle)]
 pub extern "C" fn cb_digest_full(masks: &mut [u64; 3])
     ensures { Says (digest_of masks.new) all_set }
 {
-    *masks = SetDigest::full().masks;
+    let m = SetDigest::full().masks;
+    *masks = m;
 }
 
 #[unsafe(no_mangle)]
 pub extern "C" fn cb_digest_clear(masks: &mut [u64; 3])
     ensures { Says (digest_of masks.new) none_set }
 {
-    *masks = SetDigest { masks: *masks }.clear().masks;
+    let m = SetDigest { masks: *masks }.clear().masks;
+    *masks = m;
 }
 
 #[unsafe(no_mangle)]
@@ -35,21 +38,24 @@ pub extern "C" fn cb_digest_union(masks: &mut [u64; 3], other: &[u64; 3])
 {
     let m = *masks;
     let o = *other;
-    *masks = SetDigest { masks: m }.union(SetDigest { masks: o }).masks;
+    let joined = SetDigest { masks: m }.union(SetDigest { masks: o }).masks;
+    *masks = joined;
 }
 
 #[unsafe(no_mangle)]
 pub extern "C" fn cb_digest_add(masks: &mut [u64; 3], g: u32)
     ensures { Says (digest_of masks.new) (added g (bits_of (digest_of masks.old))) }
 {
-    *masks = SetDigest { masks: *masks }.add(g).masks;
+    let m = SetDigest { masks: *masks }.add(g).masks;
+    *masks = m;
 }
 
 #[unsafe(no_mangle)]
 pub extern "C" fn cb_digest_add_array(masks: &mut [u64; 3], glyphs: &[u32])
     ensures { Says (digest_of masks.new) (added_all glyphs.now (bits_of (digest_of masks.old))) }
 {
-    *masks = SetDigest { masks: *masks }.add_array(glyphs).masks;
+    let m = SetDigest { masks: *masks }.add_array(glyphs).masks;
+    *masks = m;
 }
 
 #[unsafe(no_mangle)]
@@ -58,7 +64,8 @@ pub extern "C" fn cb_digest_add_range(masks: &mut [u64; 3], a: u32, b: u32) -> b
         × (result ≡ range_yes a b (bits_of (digest_of masks.old))) }
 {
     let d = SetDigest { masks: *masks }.add_range(a, b);
-    *masks = d.digest.masks;
+    let m = d.digest.masks;
+    *masks = m;
     d.yes
 }
 

@@ -83,10 +83,11 @@ pub extern "C" fn cb_run(
 fn match_from(m: Matched) -> InputMatch
     ensures { result ≡ match_from m }
 {
+    let positions = m.positions;
     InputMatch {
         answer: matching::answer_from(m.number, m.end, m.total),
         count: m.count,
-        positions: m.positions,
+        positions,
     }
 }
 
@@ -105,14 +106,17 @@ fn told(answer: Result<RunAnswer, RunRefusal>) -> Ran
     ensures { result ≡ ran_of answer }
 {
     match answer {
-        Ok(a) => Ran {
-            number: a.ending as u8,
-            spent: a.spent,
-            d: a.d,
-            idx: a.idx,
-            count: a.count,
-            positions: a.positions,
-        },
+        Ok(a) => {
+            let positions = a.positions;
+            Ran {
+                number: a.ending as u8,
+                spent: a.spent,
+                d: a.d,
+                idx: a.idx,
+                count: a.count,
+                positions,
+            }
+        }
         Err(why) => Ran {
             number: why as u8,
             spent: 0,
