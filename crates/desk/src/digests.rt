@@ -1,4 +1,5 @@
-// Digests. A set's digest is three masks that the caller keeps; a rule set's is one number.
+// Digests. A set's digest is three masks that the caller keeps; a rule set's is one number. A digest's masks are stored by a variable, since the
+// toolchain's walk over the code doesn't cover a field that is an array and is stored straight.
 ghost use Rattle.std.specs.Prelude.{◌≡◌, true, false};
 ghost use Rattle.digest.specs.Digest.{Says, bits_of, none_set, all_set, united, added, added_all, ranged, range_yes, may_have, may_intersect};
 ghost use Rattle.rule_digest.specs.Rule.{RuleSays, rule_bits, rule_added, rule_full, rule_may_have};
