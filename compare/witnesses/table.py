@@ -188,6 +188,7 @@ def tape(line):
 
 
 T1 = frame([5, 7])
+LONGEST = frame([5] * 64, values=[7] * 64, done=[5] * 64)
 
 
 def reads(asked, *pieces):
@@ -849,6 +850,10 @@ TABLE = {
     "tape_feed": {
         "a_CR_ends_a_line": (tape(T1), "00000200020200000001", "FF"),
         "a_line_that_is_no_frame_answers_00": (tape(""), "FF", "00"),
+        "a_line_begins_with_a_byte": (tape(T1), "00000200020200000001", "FF"),
+        "a_line_keeps_a_byte_of_the_last": (tape(T1 + "\n" + T1), "00000200020200000001 00000200020200000001", "00000200020200000001 FF FF"),
+        "more_than_the_line_is_handed_on": (tape(T1), "00000200020200000001", "FF FF"),
+        "the_byte_after_the_longest_frame_is_forgotten": (tape(LONGEST + "0"), "FF", "03"),
         "feed_stops_though_an_answer_has_room": (call("feed", b"\n", "tape_answer::MOST_ANSWER"), 'place 1, "FF\\n"', 'place 0, ""'),
     },
     "bench_tape": {
