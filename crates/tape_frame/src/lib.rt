@@ -27,7 +27,7 @@ pub const MOST_DIGITS: usize = 2 * MOST_BYTES;
 pub const ROW: usize = glyph::WORDS * MOST_GLYPHS;
 
 // A frame's numbers: what a lookup asks, the cursor, how many values it has, and how many glyphs each row.
-#[derive(Clone, Copy)]
+#[derive(Clone, Copy, Debug, PartialEq, Eq)]
 pub struct Head {
     pub settings: Settings,
     pub mask: u32,
