@@ -192,6 +192,14 @@ index_is ws i e = record {
   is = e;
 }
 
+-- one that has none doesn't read
+pub index_none : (ws : List ℕ) → index_of ws ≡ None → read_book ws ≡ Unreadable
+index_none ws e = by (read_book ws) refl
+  where
+    by : (k : Reading) → read_book ws ≡ k → read_book ws ≡ Unreadable
+    by (Reads ls) r = absurd (true≢false (sym (ap is_read r) ∙ sym (index_reads ws) ∙ ap (λ (x : Option Index). is_some x) e))
+    by Unreadable r = r
+
 -- a book that reads has one
 pub index_there : (ws : List ℕ) → is_read (read_book ws) ≡ true → (i : Index) × (index_of ws ≡ Some i)
 index_there ws r = by (index_of ws) refl
