@@ -55,8 +55,7 @@ fn on(row: &[u32], values: &[u32]) -> InputMatch {
 
 fn say(rt: &impl Print, card: &str, m: InputMatch) -> io::Result<()> {
     match m.answer {
-        Ok(Success { end, total }) => println!(
-            rt;
+        Ok(Success { end, total }) => println!(rt;
             "{card} 0 end {end} total {total} positions {}",
             m.count
         ),

@@ -279,6 +279,8 @@ fn tell_all(stdin: &mut Stdin, out: Stdout) -> Result<(), Lost> {
 // The program gives no exit status of its own: who starts it learns from this line that answers are missing.
 fn main(rt: HostRuntime) {
     if tell_all(&mut rt.stdin(), rt.stdout()).is_err() {
-        let _ = rt.stderr().write_all(b"explain: answers could not be written\n");
+        let _ = rt
+            .stderr()
+            .write_all(b"explain: answers could not be written\n");
     }
 }

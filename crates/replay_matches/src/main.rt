@@ -22,14 +22,9 @@ struct Tally {
 
 fn main(rt: HostRuntime) -> io::Result<()> {
     let t: Tally = stored::replay_input();
-    println!(
-        rt;
+    println!(rt;
         "input {}, lookahead {}, backtrack {}, differences {}; answered otherwise {}",
-        t.input,
-        t.lookahead,
-        t.backtrack,
-        t.differences,
-        t.wrong
+        t.input, t.lookahead, t.backtrack, t.differences, t.wrong
     )
 }
 

@@ -78,33 +78,21 @@ fn main(rt: HostRuntime) -> io::Result<()> {
 }
 
 fn report(rt: &impl Print, t: Tally) -> io::Result<()> {
-    print!(
-        rt;
+    print!(rt;
         "finished {}, short {}, deep {}, full {}",
-        t.finished,
-        t.short,
-        t.deep,
-        t.full
+        t.finished, t.short, t.deep, t.full
     )?;
     report_refused(rt, t.refused)?;
-    println!(
-        rt;
+    println!(rt;
         "; other cells not 0 {}, differences {}; answered otherwise {}",
-        t.filled,
-        t.differences,
-        t.wrong
+        t.filled, t.differences, t.wrong
     )
 }
 
 fn report_refused(rt: &impl Print, r: Refusals) -> io::Result<()> {
-    print!(
-        rt;
+    print!(rt;
         "; refused by 1: {}, by 2: {}, by 12: {}, by 11: {}, by 7: {}",
-        r.by_1,
-        r.by_2,
-        r.by_12,
-        r.by_11,
-        r.by_7
+        r.by_1, r.by_2, r.by_12, r.by_11, r.by_7
     )
 }
 
@@ -355,12 +343,19 @@ fn is_said(words: &[u32], answer: Result<RunAnswer, RunRefusal>, k: usize) -> bo
 
 fn rows_are(before: &[u32], ahead: &[u32], done: &[u32], coming: &[u32], filler: u32) -> bool {
     holds(done, 0, before, filler)
-        && holds(coming, coming.len().saturating_sub(ahead.len()), ahead, filler)
+        && holds(
+            coming,
+            coming.len().saturating_sub(ahead.len()),
+            ahead,
+            filler,
+        )
 }
 
 // The row has these words from a place on, and the filler everywhere else.
 fn holds(row: &[u32], from: usize, words: &[u32], filler: u32) -> bool {
-    row.iter().enumerate().all(|(k, &held)| held == cell(words, from, k, filler))
+    row.iter()
+        .enumerate()
+        .all(|(k, &held)| held == cell(words, from, k, filler))
 }
 
 fn cell(words: &[u32], from: usize, k: usize, filler: u32) -> u32 {

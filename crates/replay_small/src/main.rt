@@ -19,14 +19,10 @@ struct Tally {
 
 fn main(rt: HostRuntime) -> io::Result<()> {
     let t: Tally = stored::replay_input();
-    print!(
-        rt;
+    print!(rt;
         "set digests {}, rule set digests {}, allowances {}; answered otherwise {}
 ",
-        t.sets,
-        t.rules,
-        t.allowances,
-        t.wrong
+        t.sets, t.rules, t.allowances, t.wrong
     )
 }
 

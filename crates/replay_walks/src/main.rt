@@ -40,21 +40,13 @@ fn main(rt: HostRuntime) -> io::Result<()> {
 }
 
 fn report(rt: &impl Print, t: Tally) -> io::Result<()> {
-    print!(
-        rt;
+    print!(rt;
         "may skip {}, may match {}, verdicts {}, walks forward {}, backward {}, ",
-        t.skips,
-        t.matches,
-        t.verdicts,
-        t.forward,
-        t.backward
+        t.skips, t.matches, t.verdicts, t.forward, t.backward
     )?;
-    println!(
-        rt;
+    println!(rt;
         "refused {}, differences {}; answered otherwise {}",
-        t.refused,
-        t.differences,
-        t.wrong
+        t.refused, t.differences, t.wrong
     )
 }
 

@@ -13,7 +13,6 @@ ghost use Rattle.tape_answer.specs.Line.{most_answer};
 ghost use Rattle.tape_answer.specs.Feeding.{line_after, answer_at, bytes_taken, Feeds};
 
 pub use kept::Kept;
-
 use matching::{InputMatch, Terms};
 use tape_answer::{Fed, MOST_ANSWER, NEWLINE};
 use tape_frame::{Head, Lists, MOST_VALUES, ROW};
