@@ -73,6 +73,7 @@ pub fn run(
 }
 
 // The match is taken apart; refusal 7 unless it is a success whose places can be the first level's.
+#[tactic(auto, using(crate::specs::CallLaws::places_show, crate::specs::CallLaws::open_asks))]
 fn apply(
     done: &mut [u32],
     coming: &mut [u32],

@@ -1,15 +1,8 @@
 -- A match that isn't refused opens a sound level. Assumes nothing.
 use Rattle.std.proofs.Common.{arith, sym, ◌∙◌}
 use Rattle.run_cycle.specs.Cycle.{level_neat}
-use Rattle.run_calls.specs.CallLaws.{places_show, open_asks, level_sound, first_sound}
+use Rattle.run_calls.specs.CallLaws.{places_show, level_sound, first_sound}
 use Rattle.run_calls.proofs.apply.Goals as goal
-
-pub open-m-requires : goal.open-m-requires
-open-m-requires c =
-    let a = c.args in
-    let o = open_asks a.done.now a.coming.now a.place c.requires.0 _ a.matched.count a.matched.positions (omega arith)
-    (places_show a.place.idx _ a.matched.count a.matched.positions (sym c.is_level.ensures ∙ c.if-not-is_level.false)) in
-    (o.1, o.2, o.3, o.4)
 
 pub go-requires : goal.go-requires
 go-requires c =
