@@ -16,7 +16,7 @@ use run_positions::Slots;
 use run_step::State;
 
 // What is the same at every level of a run: its book, which reads, with where its lookups begin, the mark sets, and what is given.
-#[derive(Clone, Copy)]
+#[derive(Clone, Copy, Debug, PartialEq, Eq)]
 pub struct Shared<'a> {
     pub book: &'a [u16],
     pub index: &'a Index,
@@ -26,7 +26,7 @@ pub struct Shared<'a> {
 }
 
 // A level that is done: the run, and the level with its repaired positions.
-#[derive(Clone, Copy)]
+#[derive(Clone, Copy, Debug, PartialEq, Eq)]
 pub struct Closed {
     pub state: State,
     pub level: Slots,
