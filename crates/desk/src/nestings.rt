@@ -109,7 +109,7 @@ fn told(answer: Result<RunAnswer, RunRefusal>) -> Ran
         Ok(a) => {
             let positions = a.positions;
             Ran {
-                number: a.ending as u8,
+                number: run::number_of(Ok(a.ending)),
                 spent: a.spent,
                 d: a.d,
                 idx: a.idx,
@@ -118,7 +118,7 @@ fn told(answer: Result<RunAnswer, RunRefusal>) -> Ran
             }
         }
         Err(why) => Ran {
-            number: why as u8,
+            number: run::number_of(Err(why)),
             spent: 0,
             d: 0,
             idx: 0,
