@@ -39,6 +39,7 @@ fn capital(n: u8) -> u8
     if n < 10 { b'0' + n } else { b'A' + (n - 10) }
 }
 
+#[tactic(auto, using(tape_frame::specs::Put::put_two), unfolding(tape_frame::specs::Line::digits_of))]
 fn put_byte(out: &mut [u8], at: usize, x: u8)
     requires { at + 2 ≤ length out.old }
     ensures { out.new ≡ put out.old at (digits_of (x ∷ [])) }
@@ -55,6 +56,7 @@ fn put_half(out: &mut [u8], at: usize, x: usize)
     put_byte(out, at + 2, (x % 256) as u8);
 }
 
+#[tactic(auto, using(tape_frame::specs::Put::put_one))]
 fn put_newline(out: &mut [u8], at: usize) -> usize
     requires { at < length out.old }
     ensures { Puts out.old at (newline ∷ []) out.new result }
