@@ -1,9 +1,8 @@
 // The bench tape: its types and definitions, and an answer's digits.
 #![tactic(auto)]
 
-ghost use Rattle.std.specs.Prelude.{◌≡◌, [], ◌∷◌, ◌+◌, ◌-◌, ◌*◌, ◌≤◌, ◌<◌, min, length, take, drop};
+ghost use Rattle.std.specs.Prelude.{◌≡◌, [], ◌∷◌, ◌+◌, ◌*◌, ◌≤◌, ◌<◌, length};
 ghost use Rattle.matching.specs.Answers.{input_reply, without};
-ghost use Rattle.matching.specs.Take.{slots};
 ghost use Rattle.tape_frame.specs.Frame.{most_glyphs};
 ghost use Rattle.tape_frame.specs.Line.{capital, digits_of, half};
 ghost use Rattle.tape_frame.specs.Put.{put, Puts};
