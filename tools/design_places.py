@@ -109,9 +109,10 @@ def places():
                 variants[tuple(sorted(words))].append(f"{where} {name}")
             elif "repr(C)" not in attributes:
                 fields = re.findall(r"(\w+)\s*:\s*([^,]+)", inner)
-                for field, of in fields:
-                    if of.strip() == "bool" and len(fields) > 1:
-                        found["1 flags beside other values"].append(f"{where} {name}.{field}")
+                flags = [field for field, of in fields if of.strip() == "bool"]
+                if 0 < len(flags) < 3 and len(flags) < len(fields):  # three and more are a lookup's switches
+                    for flag in flags:
+                        found["1 flags beside other values"].append(f"{where} {name}.{flag}")
                 if {"from", "to"} <= {field for field, _ in fields}:
                     found["6 two places for a part"].append(f"{where} {name}")
                 if any(of.strip().startswith("[") for _, of in fields) and any(field in ("count", "n", "kept") for field, _ in fields):

@@ -17,7 +17,8 @@ pub const SIDE: usize = 64;
 
 pub const RECORDS: usize = 16;
 
-// A part of the book's words, `words[from..to]`.
+// A part of the book's words, `words[from..to]`. Two places and no slice: a slice would be part of an entry, so that what a lookup is would be said of
+// lent words, where the definitions say it of numbers.
 #[derive(Clone, Copy, Debug, PartialEq, Eq)]
 pub struct Part {
     pub from: usize,
@@ -42,7 +43,7 @@ pub enum Entry {
     Chain { props: u32, parts: ChainParts },
 }
 
-// Where each lookup of a book that reads begins; unused slots are 0.
+// Where each lookup of a book that reads begins; unused slots are 0. An array with a count, since the library has no heap.
 #[derive(Clone, Copy, Debug, PartialEq, Eq)]
 pub struct Index {
     pub count: usize,

@@ -17,7 +17,7 @@ pub fn reads(words: &[u16]) -> bool
     index_of(words).is_some()
 }
 
-// The book read once, from its first word to its last; none where it doesn't read.
+// The book read once, from its first word to its last; none where it doesn't read. The loop goes by the lookups' sizes and counts no places.
 pub fn index_of(words: &[u16]) -> Option<Index>
     ensures { result ≡ index_of words.now }
 {

@@ -52,6 +52,7 @@ pub(crate) fn cursor(line: &mut Line, place: usize, g: Glyph) {
     line.end();
 }
 
+// Each of the two answers has a type of its own, and so has its words; one function for both would go by numbers.
 fn skip(line: &mut Line, s: MaySkip) {
     match s {
         MaySkip::No => line.say(b"No"),

@@ -55,6 +55,7 @@ impl Line {
         self.lost
     }
 
+    // A column is a number at most COLUMNS; a type for that would be made anew of each constant.
     fn blanks(&mut self, column: usize)
         requires on { self.old.at ≤ column }
         requires within { column ≤ 100 }

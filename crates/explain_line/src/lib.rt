@@ -7,7 +7,7 @@ ghost use Rattle.tape_frame.specs.Put.{Puts};
 ghost use Rattle.explain_line.specs.Fault.{fault_of};
 ghost use Rattle.explain_line.specs.Words.{IsFitting};
 
-// What keeps a line from being a frame.
+// What keeps a line from being a frame. It is said of a line that is none, so it is no Result.
 #[derive(Clone, Copy, Debug, PartialEq, Eq)]
 pub enum LineFault {
     // More digits than the longest frame has.

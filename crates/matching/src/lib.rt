@@ -72,7 +72,7 @@ impl From<Refusal> for NoMatch {
 
 pub type InputAnswer = Result<Success, NoMatch>;
 
-// The answer, and the positions that it counts; the other slots are 0.
+// The answer, and beside it, as 01 has them, the positions that it counts; the other slots are 0.
 #[derive(Clone, Copy, Debug, PartialEq, Eq)]
 pub struct InputMatch {
     pub answer: InputAnswer,
@@ -210,7 +210,7 @@ fn lose(why: NoMatch, positions: &mut [u16; 64]) -> InputAnswer
     Err(why)
 }
 
-// ---- an answer by its number
+// ---- an answer by its number, as C hands it in
 
 pub fn answer_from(number: u8, end: usize, total: u16) -> InputAnswer
     ensures { result ≡ answer_from number end total }

@@ -1,4 +1,4 @@
-// What the three calls are refused for, told before anything is matched.
+// What the three calls are refused for, told before anything is matched. What is handed in comes one by one, as the calls have it.
 #![tactic(auto)]
 
 ghost use Rattle.std.specs.Prelude.{◌≡◌, cond};

@@ -40,7 +40,7 @@ pub fn is_over(e: Ending) -> bool
     matches!(e, Ending::Deep | Ending::Full)
 }
 
-// 01's number of a run's ending or refusal.
+// 01's number of a run's ending or refusal, for C.
 pub fn number_of(e: Result<Ending, RunRefusal>) -> u8
     ensures { result ≡ run_number e }
 {

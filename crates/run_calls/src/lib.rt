@@ -19,6 +19,7 @@ use run_positions::Slots;
 use text::Place;
 
 // How the run ended, the lookups tried, where the text is parted, and the first level's positions. A refused run has no answer, only why.
+// The positions stand in an array with a count, since the library has no heap.
 #[derive(Clone, Copy, Debug, PartialEq, Eq)]
 pub struct RunAnswer {
     pub ending: Ending,
@@ -30,7 +31,7 @@ pub struct RunAnswer {
 }
 
 // A run of records over a text: `done` holds its first d glyphs, `coming` ends with the others, from glyph idx on. The match handed in counts places
-// in `coming`.
+// in `coming`. What is handed in comes one by one, in 01\'s order, as C has it.
 #[tactic(auto, using(crate::specs::CallLaws::index_is, crate::specs::CallLaws::index_none), unfolding(crate::specs::Calls::checked_all))]
 pub fn run(
     done: &mut [u32],

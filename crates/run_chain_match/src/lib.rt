@@ -85,7 +85,8 @@ impl Search<'_> {
         )
     }
 
-    // Whether lookahead values of the book are there from a start on.
+    // Whether lookahead values of the book are there from a start on. A function beside `is_behind`, since each calls another matcher with another
+    // contract: one over a closure would say both again.
     fn is_ahead(
         self,
         coming: &[u32],

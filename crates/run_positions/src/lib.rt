@@ -9,7 +9,8 @@ ghost use Rattle.run.specs.Run.{from_done, moved_level};
 
 pub const SLOTS: usize = 64;
 
-// Whether its records go on, its end, and its positions from the text's first glyph on; unused slots are 0.
+// Whether its records go on, its end, and its positions from the text's first glyph on; unused slots are 0. A level that is stopped has its end and
+// positions too, so `live` is a value beside them.
 // An array with a count, since the library has no heap. That unused slots are 0 (`Neat`) is said in clauses and is no ghost field: the definitions
 // make slots of levels (`shown`), and each record of slots in the laws of the rooms above would then carry its proof, which is no plainer.
 #[derive(Clone, Copy, Debug, PartialEq, Eq)]

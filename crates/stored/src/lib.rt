@@ -21,7 +21,7 @@ pub struct Span {
     pub to: usize,
 }
 
-// A line that was replayed: whether our answer was the stored one, and where the next line begins.
+// A line that was replayed: whether our answer was the stored one, and where the next line begins, right or not.
 #[derive(Clone, Copy, Debug, PartialEq, Eq)]
 pub struct Replayed {
     pub right: bool,
