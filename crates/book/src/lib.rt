@@ -17,8 +17,8 @@ pub const SIDE: usize = 64;
 
 pub const RECORDS: usize = 16;
 
-// A part of the book's words, `words[from..to]`. Two places and no slice: a slice would be part of an entry, so that what a lookup is would be said of
-// lent words, where the definitions say it of numbers.
+// A part of the book's words, `words[from..to]`. Two places and no slice: a slice would be part of an entry, so that what a lookup is would be said
+// of lent words, where the definitions say it of numbers.
 #[derive(Clone, Copy, Debug, PartialEq, Eq)]
 pub struct Part {
     pub from: usize,

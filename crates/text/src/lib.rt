@@ -1,6 +1,6 @@
 // A text in two rows: `done` holds its first d glyphs, `coming` ends with the others, from glyph idx on. The cursor stands between them.
-// The rows and the place are parameters, and that they fit (`Fits`) is a clause: a struct would hold both rows as they are lent to write, and each step
-// of a run, whose state goes by value, would take it apart.
+// The rows and the place are parameters, and that they fit (`Fits`) is a clause: a struct would hold both rows as they are lent to write, and each
+// step of a run, whose state goes by value, would take it apart.
 #![tactic(auto, using(std::proofs::lemmas::Bool::Decides::nat_tests, crate::proofs::Rows::row_sizes), unfolding(glyph::specs::Glyph::limit))]
 
 ghost use Rattle.std.specs.Prelude.{◌≡◌, [], ◌∷◌, ◌+◌, ◌≤◌, ◌<◌, length, get_or, set};
