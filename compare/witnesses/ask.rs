@@ -111,7 +111,7 @@ fn empty_lines(n: usize) -> String {
 }
 
 fn feed(piece: &[u8], room: usize) -> String {
-    let mut kept = tape_feed::Kept::new();
+    let mut kept = tape_feed::KeptLine::new();
     let mut out = vec![0; room];
     let fed = tape_feed::feed(piece, 0, &mut kept, &mut out, 0);
     format!("place {}, {:?}", fed.at, String::from_utf8_lossy(&out[..fed.written]))

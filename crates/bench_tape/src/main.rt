@@ -13,7 +13,7 @@ ghost use Rattle.tape_answer.specs.Tape.{last_answer};
 ghost use Rattle.bench_tape.specs.Taking.{space, PartTaken, PieceTaken, Answered, TapeOf};
 
 use std::io::{Read, Result, Write};
-use tape_feed::Kept;
+use tape_feed::KeptLine;
 
 // Bytes of a read, and of answers that are written at once.
 const SPACE: usize = 65536;
@@ -33,7 +33,7 @@ fn send<W: Write, E: Write>(answers: &[u8], stdout: &mut W, stderr: &mut E) -> R
 fn take_part<W: Write, E: Write>(
     piece: &[u8],
     from: usize,
-    kept: &mut Kept,
+    kept: &mut KeptLine,
     out: &mut [u8; SPACE],
     stdout: &mut W,
     stderr: &mut E,
@@ -49,7 +49,7 @@ fn take_part<W: Write, E: Write>(
 // A whole piece, a part at a time.
 fn take_piece<W: Write, E: Write>(
     piece: &[u8],
-    kept: &mut Kept,
+    kept: &mut KeptLine,
     out: &mut [u8; SPACE],
     stdout: &mut W,
     stderr: &mut E,
@@ -67,7 +67,7 @@ fn take_piece<W: Write, E: Write>(
 fn one_read<R: Read, W: Write, E: Write>(
     stdin: &mut R,
     input: &mut [u8; SPACE],
-    kept: &mut Kept,
+    kept: &mut KeptLine,
     out: &mut [u8; SPACE],
     stdout: &mut W,
     stderr: &mut E,
@@ -83,7 +83,7 @@ fn one_read<R: Read, W: Write, E: Write>(
 fn read_all<R: Read, W: Write, E: Write>(
     stdin: &mut R,
     input: &mut [u8; SPACE],
-    kept: &mut Kept,
+    kept: &mut KeptLine,
     out: &mut [u8; SPACE],
     stdout: &mut W,
     stderr: &mut E,
@@ -122,7 +122,7 @@ fn run<R: Read, W: Write, E: Write>(
 ) -> Result<()>
     ensures { OnOk result (TapeOf (W.contents stdout.old) (W.contents stdout.new)) }
 {
-    let mut kept = Kept::new();
+    let mut kept = KeptLine::new();
     read_all(stdin, input, &mut kept, out, stdout, stderr)?;
     let end = answer_last(kept.bytes(), out);
     send(&out[..end], stdout, stderr)

@@ -6,12 +6,12 @@ use std::marker::Model;
 use tape_answer::MOST_KEPT;
 
 #[derive(Drop)]
-pub struct Kept {
+pub struct KeptLine {
     bytes: [u8; MOST_KEPT],
     len: usize,
 }
 
-impl Model for Kept {
+impl Model for KeptLine {
     ghost Value = { List ℕ };
 
     ghost view = { λ k. take k.len k.bytes };
@@ -19,11 +19,11 @@ impl Model for Kept {
     ghost invariant = { λ k. k.len ≤ most_kept };
 }
 
-impl Kept {
+impl KeptLine {
     pub fn new() -> Self
         ensures { result ≡ [] }
     {
-        Kept {
+        KeptLine {
             bytes: [0; MOST_KEPT],
             len: 0,
         }

@@ -12,7 +12,7 @@ ghost use Rattle.tape_answer.specs.Asking.{asked};
 ghost use Rattle.tape_answer.specs.Line.{most_answer};
 ghost use Rattle.tape_answer.specs.Feeding.{line_after, answer_at, bytes_taken, Feeds};
 
-pub use kept::Kept;
+pub use kept::KeptLine;
 use matching::{InputMatch, Terms};
 use tape_answer::{Fed, MOST_ANSWER, NEWLINE};
 use tape_frame::{Head, Lists, MOST_VALUES, ROW};
@@ -63,7 +63,7 @@ pub fn answer_line(line: &[u8], out: &mut [u8], at: usize) -> usize
 }
 
 // One byte of the tape: it ends the line, which is answered, or is kept, or only makes a long line longer. Where the answers end then.
-fn take_byte(kept: &mut Kept, out: &mut [u8], m: usize, b: u8) -> usize
+fn take_byte(kept: &mut KeptLine, out: &mut [u8], m: usize, b: u8) -> usize
     requires { m + most_answer ≤ length out.old }
     ensures kept_after { kept.new ≡ line_after kept.old b }
     ensures puts { Puts out.old m (answer_at kept.old b) out.new result }
@@ -79,7 +79,7 @@ fn take_byte(kept: &mut Kept, out: &mut [u8], m: usize, b: u8) -> usize
 }
 
 // A piece of the tape from a place on, until it ends or `out` has no room for one more answer.
-pub fn feed(piece: &[u8], from: usize, kept: &mut Kept, out: &mut [u8], m: usize) -> Fed
+pub fn feed(piece: &[u8], from: usize, kept: &mut KeptLine, out: &mut [u8], m: usize) -> Fed
     requires { (from < length piece.now) × (m + most_answer ≤ length out.old) }
     ensures feeds { Feeds (bytes_taken (length out.old - m) kept.old (drop from piece.now)) from
         kept.old out.old m result.at kept.new out.new result.written }
