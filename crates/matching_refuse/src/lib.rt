@@ -8,6 +8,7 @@ ghost use Rattle.matching_refuse.specs.Fit.{bad_text, input_fit, ahead_fit, back
 use matching::{MAX_CONTEXT_LENGTH, Refusal};
 
 // A text whose rows, lengths or mark sets are ill shaped.
+#[tactic(auto, unfolding(crate::specs::Fit::bad_text))]
 fn is_bad_text(done: &[u32], d: usize, coming: &[u32], len: usize, sets: &[u16]) -> bool
     ensures { result ≡ bad_text done.now d coming.now len sets.now }
 {
@@ -19,6 +20,7 @@ fn is_bad_text(done: &[u32], d: usize, coming: &[u32], len: usize, sets: &[u16])
 }
 
 // Input: 1, 2, and 3 for over 63 values.
+#[tactic(auto, unfolding(crate::specs::Fit::input_fit))]
 pub fn input_fit(
     done: &[u32],
     d: usize,
@@ -35,6 +37,7 @@ pub fn input_fit(
 }
 
 // Lookahead: 1, for a start past len too, 2, 3 for over 64 values, and 6 for a start of 0, also with no values.
+#[tactic(auto, unfolding(crate::specs::Fit::ahead_fit))]
 pub fn ahead_fit(
     done: &[u32],
     d: usize,
@@ -52,6 +55,7 @@ pub fn ahead_fit(
 }
 
 // Backtrack: 1, 2, and 3 for over 64 values.
+#[tactic(auto, unfolding(crate::specs::Fit::back_fit))]
 pub fn back_fit(
     done: &[u32],
     d: usize,

@@ -1,7 +1,0 @@
--- The line's tests are the definition's. Assumes nothing.
-use Rattle.matching_refuse.specs.Fit.{input_fit}
-use Rattle.matching_refuse.proofs.input_fit.Goals as goal
-
-pub returns : goal.returns
-unfolding input_fit
-returns c = rw (← c.is_bad_text-bad.ensures) c.first_line.ensures
