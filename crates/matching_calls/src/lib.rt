@@ -1,4 +1,4 @@
-// The three calls on rows of words that a user makes, refused in 01's order before anything is matched. Their parameters are those of the C interface.
+// The three calls on rows of words that a user makes, refused in 01's order before anything is matched. Their parameters are the C interface's.
 #![tactic(auto)]
 
 ghost use Rattle.std.specs.Prelude.{◌≡◌, []};
