@@ -19,6 +19,7 @@ use glyph::Glyph;
 use ligature::Ligbase;
 use matching::{NoMatch, Terms};
 use std::io::{Read, Stdin, Stdout, Write};
+use tape_feed::KeptLine;
 use tape_frame::{Head, Lists};
 use verdict::{Matcher, Sign, Test};
 
@@ -212,33 +213,28 @@ fn tell_line(out: Stdout, frame: &[u8], number: u64) -> Result<(), Lost> {
 
 // ---- the input
 
-// The line at hand: its first bytes, as far as there is room, and how many lines came before it.
+// What is kept of the line at hand, and how many lines came before it.
 #[derive(Drop)]
-struct Kept {
-    bytes: [u8; tape_answer::MOST_KEPT],
-    len: usize,
-    lines: u64,
-    ghost held: { len ≤ length bytes },
+struct Lines {
+    kept: KeptLine,
+    told: u64,
 }
 
-impl Kept {
+impl Lines {
     // A byte ends the line, which is told, or is kept, or only makes a long line longer.
     fn take(&mut self, out: Stdout, b: u8) -> Result<(), Lost> {
         if b == tape_answer::NEWLINE {
             return self.tell(out);
         }
-        if self.len < tape_answer::MOST_KEPT {
-            self.bytes[self.len] = b;
-            self.len += 1;
-        }
+        self.kept.push(b);
         Ok(())
     }
 
     fn tell(&mut self, out: Stdout) -> Result<(), Lost> {
-        let len = self.len;
-        self.len = 0;
-        self.lines = self.lines.wrapping_add(1);
-        tell_line(out, &self.bytes[..len], self.lines)
+        self.told = self.told.wrapping_add(1);
+        let told = tell_line(out, self.kept.bytes(), self.told);
+        self.kept.clear();
+        told
     }
 
     fn take_piece(&mut self, out: Stdout, piece: &[u8]) -> Result<(), Lost> {
@@ -250,28 +246,27 @@ impl Kept {
 }
 
 // Reads to the end, or until answers are lost. A read that fails counts as the end of the input.
-fn read_all(stdin: &mut Stdin, out: Stdout, kept: &mut Kept) -> Result<(), Lost> {
+fn read_all(stdin: &mut Stdin, out: Stdout, lines: &mut Lines) -> Result<(), Lost> {
     for _ in 0..u64::MAX {
         let mut space = [0u8; SPACE];
         let size = stdin.read(&mut space).unwrap_or(0);
         if size == 0 {
             break;
         }
-        kept.take_piece(out, &space[..size])?;
+        lines.take_piece(out, &space[..size])?;
     }
     Ok(())
 }
 
 // Every line of the input, and a last one that lacks its 0A.
 fn tell_all(stdin: &mut Stdin, out: Stdout) -> Result<(), Lost> {
-    let mut kept = Kept {
-        bytes: [0; tape_answer::MOST_KEPT],
-        len: 0,
-        lines: 0,
+    let mut lines = Lines {
+        kept: KeptLine::new(),
+        told: 0,
     };
-    read_all(stdin, out, &mut kept)?;
-    if 0 < kept.len {
-        return kept.tell(out);
+    read_all(stdin, out, &mut lines)?;
+    if !lines.kept.bytes().is_empty() {
+        return lines.tell(out);
     }
     Ok(())
 }
