@@ -17,188 +17,243 @@ struct Tally {
     wrong: u64,
 }
 
+// A line's operation: a call on a set digest, on a rule set digest or on an allowance.
+#[derive(Clone, Copy, Debug, PartialEq, Eq)]
+enum Operation {
+    Set(SetCall),
+    Rule(RuleCall),
+    Allowance(AllowanceCall),
+}
+
+#[derive(Clone, Copy, Debug, PartialEq, Eq)]
+enum SetCall {
+    New,
+    Full,
+    Clear,
+    Union,
+    Add,
+    AddArray,
+    AddRange,
+    MayHave,
+    MayIntersect,
+}
+
+#[derive(Clone, Copy, Debug, PartialEq, Eq)]
+enum RuleCall {
+    New,
+    Full,
+    Add,
+    IsFull,
+    MayHave,
+}
+
+#[derive(Clone, Copy, Debug, PartialEq, Eq)]
+enum AllowanceCall {
+    ForTableBytes,
+    Work,
+    Alloc,
+}
+
+// By a line's number. A list has 0 to 8, 10 to 14 and 20 to 22; any other, of a damaged list, stands for the nearest below it.
+impl From<u32> for Operation {
+    fn from(number: u32) -> Operation {
+        match number {
+            0 => Operation::Set(SetCall::New),
+            1 => Operation::Set(SetCall::Full),
+            2 => Operation::Set(SetCall::Clear),
+            3 => Operation::Set(SetCall::Union),
+            4 => Operation::Set(SetCall::Add),
+            5 => Operation::Set(SetCall::AddArray),
+            6 => Operation::Set(SetCall::AddRange),
+            7 => Operation::Set(SetCall::MayHave),
+            8..=9 => Operation::Set(SetCall::MayIntersect),
+            10 => Operation::Rule(RuleCall::New),
+            11 => Operation::Rule(RuleCall::Full),
+            12 => Operation::Rule(RuleCall::Add),
+            13 => Operation::Rule(RuleCall::IsFull),
+            14..=19 => Operation::Rule(RuleCall::MayHave),
+            20 => Operation::Allowance(AllowanceCall::ForTableBytes),
+            21 => Operation::Allowance(AllowanceCall::Work),
+            _ => Operation::Allowance(AllowanceCall::Alloc),
+        }
+    }
+}
+
 fn main(rt: HostRuntime) -> io::Result<()> {
-    let t: Tally = stored::replay_input();
-    print!(rt;
-        "set digests {}, rule set digests {}, allowances {}; answered otherwise {}
-",
-        t.sets, t.rules, t.allowances, t.wrong
+    let tally: Tally = stored::replay_input();
+    println!(rt;
+        "set digests {}, rule set digests {}, allowances {}; answered otherwise {}",
+        tally.sets, tally.rules, tally.allowances, tally.wrong
     )
 }
 
 impl stored::Tally for Tally {
     fn replay_line(&mut self, words: &[u32], at: usize) -> usize {
-        let line = one(words, at);
-        self.count(word(words, at), line.right);
+        let operation = Operation::from(word(words, at));
+        let line = one(words, operation, after(at, 1));
+        self.count(operation, line.right);
         line.next
     }
 }
 
 impl Tally {
     // One line more.
-    fn count(&mut self, op: u32, right: bool) {
-        self.sets = more(self.sets, op < 10);
-        self.rules = more(self.rules, 10 <= op && op < 20);
-        self.allowances = more(self.allowances, 20 <= op);
+    fn count(&mut self, operation: Operation, right: bool) {
+        match operation {
+            Operation::Set(_) => self.sets = more(self.sets, true),
+            Operation::Rule(_) => self.rules = more(self.rules, true),
+            Operation::Allowance(_) => self.allowances = more(self.allowances, true),
+        }
         self.wrong = more(self.wrong, !right);
     }
 }
 
-// The three masks from word k on.
-fn masks(words: &[u32], k: usize) -> SetDigest {
+// The three masks from a word on.
+fn masks(words: &[u32], at: usize) -> SetDigest {
     let masks = [
-        number(words, k),
-        number(words, after(k, 2)),
-        number(words, after(k, 4)),
+        number(words, at),
+        number(words, after(at, 2)),
+        number(words, after(at, 4)),
     ];
     SetDigest { masks }
 }
 
-// The two numbers of an allowance from word k on.
-fn budget(words: &[u32], k: usize) -> Budget {
-    Budget::new(number(words, k), number(words, after(k, 2)))
+// The two numbers of an allowance from a word on.
+fn budget(words: &[u32], at: usize) -> Budget {
+    Budget::new(number(words, at), number(words, after(at, 2)))
 }
 
-fn one(words: &[u32], at: usize) -> Replayed {
-    let op = word(words, at);
-    let k = after(at, 1);
-    if op < 10 {
-        set_line(words, op, k)
-    } else if op < 20 {
-        rule_line(words, op, k)
-    } else {
-        allowance_line(words, op, k)
+// A line, from the word after its operation on.
+fn one(words: &[u32], operation: Operation, at: usize) -> Replayed {
+    match operation {
+        Operation::Set(call) => set_line(words, call, at),
+        Operation::Rule(call) => rule_line(words, call, at),
+        Operation::Allowance(call) => allowance_line(words, call, at),
     }
 }
 
-fn set_line(words: &[u32], op: u32, k: usize) -> Replayed {
-    if op < 5 {
-        made_line(words, op, k)
-    } else {
-        asked_line(words, op, k)
-    }
-}
-
-// new, full, clear, union, add: the answer is a digest.
-fn made_line(words: &[u32], op: u32, k: usize) -> Replayed {
-    match op {
-        0 => digest_is(words, SetDigest::new(), k),
-        1 => digest_is(words, SetDigest::full(), k),
-        2 => digest_is(words, masks(words, k).clear(), after(k, 6)),
-        3 => digest_is(
+fn set_line(words: &[u32], call: SetCall, at: usize) -> Replayed {
+    match call {
+        SetCall::New => digest_is(words, SetDigest::new(), at),
+        SetCall::Full => digest_is(words, SetDigest::full(), at),
+        SetCall::Clear => digest_is(words, masks(words, at).clear(), after(at, 6)),
+        SetCall::Union => digest_is(
             words,
-            masks(words, k).union(masks(words, after(k, 6))),
-            after(k, 12),
+            masks(words, at).union(masks(words, after(at, 6))),
+            after(at, 12),
         ),
-        _ => digest_is(
+        SetCall::Add => digest_is(
             words,
-            masks(words, k).add(word(words, after(k, 6))),
-            after(k, 7),
+            masks(words, at).add(word(words, after(at, 6))),
+            after(at, 7),
         ),
-    }
-}
-
-// add_array, add_range, may_have, may_intersect.
-fn asked_line(words: &[u32], op: u32, k: usize) -> Replayed {
-    match op {
-        5 => array_line(words, k),
-        6 => range_line(words, k),
-        7 => yes_is(
+        SetCall::AddArray => array_line(words, at),
+        SetCall::AddRange => range_line(words, at),
+        SetCall::MayHave => yes_is(
             words,
-            masks(words, k).may_have(word(words, after(k, 6))),
-            after(k, 7),
+            masks(words, at).may_have(word(words, after(at, 6))),
+            after(at, 7),
         ),
-        _ => yes_is(
+        SetCall::MayIntersect => yes_is(
             words,
-            masks(words, k).may_intersect(masks(words, after(k, 6))),
-            after(k, 12),
+            masks(words, at).may_intersect(masks(words, after(at, 6))),
+            after(at, 12),
         ),
     }
 }
 
-fn array_line(words: &[u32], k: usize) -> Replayed {
-    let n = word(words, after(k, 6)) as usize;
-    let from = after(k, 7);
-    let to = after(from, n);
-    digest_is(words, masks(words, k).add_array(part(words, from, to)), to)
+fn array_line(words: &[u32], at: usize) -> Replayed {
+    let count = word(words, after(at, 6)) as usize;
+    let from = after(at, 7);
+    let to = after(from, count);
+    digest_is(words, masks(words, at).add_array(part(words, from, to)), to)
 }
 
-fn range_line(words: &[u32], k: usize) -> Replayed {
-    let r = masks(words, k).add_range(word(words, after(k, 6)), word(words, after(k, 7)));
-    let d = digest_is(words, r.digest, after(k, 8));
-    let y = yes_is(words, r.yes, d.next);
+fn range_line(words: &[u32], at: usize) -> Replayed {
+    let added = masks(words, at).add_range(word(words, after(at, 6)), word(words, after(at, 7)));
+    let digest = digest_is(words, added.digest, after(at, 8));
+    let yes = yes_is(words, added.yes, digest.next);
     Replayed {
-        right: d.right && y.right,
-        next: y.next,
+        right: digest.right && yes.right,
+        next: yes.next,
     }
 }
 
-fn rule_line(words: &[u32], op: u32, k: usize) -> Replayed {
+fn rule_line(words: &[u32], call: RuleCall, at: usize) -> Replayed {
     let rule = RuleSetDigest {
-        mask: number(words, k),
+        mask: number(words, at),
     };
-    match op {
-        10 => number_is(words, RuleSetDigest::new().mask, k),
-        11 => number_is(words, RuleSetDigest::full().mask, k),
-        12 => number_is(words, rule.add(word(words, after(k, 2))).mask, after(k, 3)),
-        13 => yes_is(words, rule.is_full(), after(k, 2)),
-        _ => yes_is(words, rule.may_have(word(words, after(k, 2))), after(k, 3)),
-    }
-}
-
-fn allowance_line(words: &[u32], op: u32, k: usize) -> Replayed {
-    match op {
-        20 => budget_is(
+    match call {
+        RuleCall::New => number_is(words, RuleSetDigest::new().mask, at),
+        RuleCall::Full => number_is(words, RuleSetDigest::full().mask, at),
+        RuleCall::Add => number_is(
             words,
-            Budget::for_table_bytes(number(words, k)),
-            after(k, 2),
+            rule.add(word(words, after(at, 2))).mask,
+            after(at, 3),
         ),
-        21 => charge_is(
+        RuleCall::IsFull => yes_is(words, rule.is_full(), after(at, 2)),
+        RuleCall::MayHave => yes_is(
             words,
-            budget(words, k).work(number(words, after(k, 4))),
-            after(k, 6),
-        ),
-        _ => charge_is(
-            words,
-            budget(words, k).alloc(number(words, after(k, 4)), number(words, after(k, 6))),
-            after(k, 8),
+            rule.may_have(word(words, after(at, 2))),
+            after(at, 3),
         ),
     }
 }
 
-fn number_is(words: &[u32], n: u64, k: usize) -> Replayed {
-    Replayed {
-        right: number(words, k) == n,
-        next: after(k, 2),
+fn allowance_line(words: &[u32], call: AllowanceCall, at: usize) -> Replayed {
+    match call {
+        AllowanceCall::ForTableBytes => budget_is(
+            words,
+            Budget::for_table_bytes(number(words, at)),
+            after(at, 2),
+        ),
+        AllowanceCall::Work => charge_is(
+            words,
+            budget(words, at).work(number(words, after(at, 4))),
+            after(at, 6),
+        ),
+        AllowanceCall::Alloc => charge_is(
+            words,
+            budget(words, at).alloc(number(words, after(at, 4)), number(words, after(at, 6))),
+            after(at, 8),
+        ),
     }
 }
 
-fn yes_is(words: &[u32], yes: bool, k: usize) -> Replayed {
+// Whether what we answer stands from a word on, and where the words after it begin.
+fn number_is(words: &[u32], ours: u64, at: usize) -> Replayed {
     Replayed {
-        right: word(words, k) == yes as u32,
-        next: after(k, 1),
+        right: number(words, at) == ours,
+        next: after(at, 2),
     }
 }
 
-fn digest_is(words: &[u32], d: SetDigest, k: usize) -> Replayed {
+fn yes_is(words: &[u32], ours: bool, at: usize) -> Replayed {
     Replayed {
-        right: masks(words, k) == d,
-        next: after(k, 6),
+        right: word(words, at) == ours as u32,
+        next: after(at, 1),
     }
 }
 
-fn budget_is(words: &[u32], b: Budget, k: usize) -> Replayed {
+fn digest_is(words: &[u32], ours: SetDigest, at: usize) -> Replayed {
     Replayed {
-        right: budget(words, k) == b,
-        next: after(k, 4),
+        right: masks(words, at) == ours,
+        next: after(at, 6),
     }
 }
 
-fn charge_is(words: &[u32], c: Charged, k: usize) -> Replayed {
-    let y = yes_is(words, c.charge.is_ok(), k);
-    let b = budget_is(words, c.left, y.next);
+fn budget_is(words: &[u32], ours: Budget, at: usize) -> Replayed {
     Replayed {
-        right: y.right && b.right,
-        next: b.next,
+        right: budget(words, at) == ours,
+        next: after(at, 4),
+    }
+}
+
+fn charge_is(words: &[u32], ours: Charged, at: usize) -> Replayed {
+    let taken = yes_is(words, ours.charge.is_ok(), at);
+    let left = budget_is(words, ours.left, taken.next);
+    Replayed {
+        right: taken.right && left.right,
+        next: left.next,
     }
 }
