@@ -24,10 +24,54 @@ struct Tally {
     wrong: u64,
 }
 
+// What a line asks.
+#[derive(Clone, Copy, Debug, PartialEq, Eq)]
+enum Operation {
+    MaySkip,
+    Verdict,
+    Forward,
+    Backward,
+    MayMatch,
+    // A damaged list's: asked as a walk backward, and counted as none of these.
+    Unknown,
+}
+
+// Whose a line's answer is: the original's; ours, where the original's is another; a second reading of 01's, that the question is refused.
+#[derive(Clone, Copy, Debug, PartialEq, Eq)]
+enum Origin {
+    Original,
+    Difference,
+    Refusal,
+}
+
+// Both are of a line's number: its hundreds say the origin, and what is left of it the operation.
+impl From<u32> for Operation {
+    fn from(number: u32) -> Operation {
+        match number % 100 {
+            30 => Operation::MaySkip,
+            31 => Operation::Verdict,
+            32 => Operation::Forward,
+            33 => Operation::Backward,
+            34 => Operation::MayMatch,
+            _ => Operation::Unknown,
+        }
+    }
+}
+
+impl From<u32> for Origin {
+    fn from(number: u32) -> Origin {
+        match number {
+            0..=99 => Origin::Original,
+            100..=199 => Origin::Difference,
+            _ => Origin::Refusal,
+        }
+    }
+}
+
 // What a line asks beside its rows.
 #[derive(Clone, Copy)]
 struct Question {
-    op: u32,
+    operation: Operation,
     matcher: Matcher,
     sign: Sign,
     syllable: u8,
@@ -39,51 +83,62 @@ fn main(rt: HostRuntime) -> io::Result<()> {
     report(&rt, stored::replay_input())
 }
 
-fn report(rt: &impl Print, t: Tally) -> io::Result<()> {
+fn report(rt: &impl Print, tally: Tally) -> io::Result<()> {
     print!(rt;
         "may skip {}, may match {}, verdicts {}, walks forward {}, backward {}, ",
-        t.skips, t.matches, t.verdicts, t.forward, t.backward
+        tally.skips, tally.matches, tally.verdicts, tally.forward, tally.backward
     )?;
     println!(rt;
         "refused {}, differences {}; answered otherwise {}",
-        t.refused, t.differences, t.wrong
+        tally.refused, tally.differences, tally.wrong
     )
 }
 
 impl stored::Tally for Tally {
     fn replay_line(&mut self, words: &[u32], at: usize) -> usize {
-        let line = one(words, at);
-        self.count(word(words, at), line.right);
+        let number = word(words, at);
+        let operation = Operation::from(number);
+        let line = one(words, operation, at);
+        self.count(operation, Origin::from(number), line.right);
         line.next
     }
 }
 
 impl Tally {
     // One line more.
-    fn count(&mut self, op: u32, right: bool) {
-        self.differences = more(self.differences, 100 <= op && op < 200);
-        self.refused = more(self.refused, 200 <= op);
-        self.skips = more(self.skips, op == 30);
-        self.matches = more(self.matches, op == 34);
-        self.verdicts = more(self.verdicts, op == 31);
-        self.forward = more(self.forward, op == 32);
-        self.backward = more(self.backward, op == 33);
+    fn count(&mut self, operation: Operation, origin: Origin, right: bool) {
+        match origin {
+            Origin::Original => self.count_original(operation),
+            Origin::Difference => self.differences = more(self.differences, true),
+            Origin::Refusal => self.refused = more(self.refused, true),
+        }
         self.wrong = more(self.wrong, !right);
+    }
+
+    fn count_original(&mut self, operation: Operation) {
+        match operation {
+            Operation::MaySkip => self.skips = more(self.skips, true),
+            Operation::Verdict => self.verdicts = more(self.verdicts, true),
+            Operation::Forward => self.forward = more(self.forward, true),
+            Operation::Backward => self.backward = more(self.backward, true),
+            Operation::MayMatch => self.matches = more(self.matches, true),
+            Operation::Unknown => {}
+        }
     }
 }
 
-fn one(words: &[u32], at: usize) -> Replayed {
-    let q = asked(words, at);
+fn one(words: &[u32], operation: Operation, at: usize) -> Replayed {
+    let question = asked(words, operation, at);
     let marks = list(words, after(at, 13));
     let row = list(words, marks.to);
     let mut sets = [0u16; 512];
-    let n = stored::narrow(listed(words, marks), &mut sets);
-    answered(q, listed(words, row), &sets[..n], words, row.to)
+    let count = stored::narrow(listed(words, marks), &mut sets);
+    answered(question, listed(words, row), &sets[..count], words, row.to)
 }
 
-fn asked(words: &[u32], at: usize) -> Question {
+fn asked(words: &[u32], operation: Operation, at: usize) -> Question {
     Question {
-        op: word(words, at),
+        operation,
         matcher: matcher(words, at),
         sign: Sign {
             test: Test::from((word(words, after(at, 8)) % 256) as u8),
@@ -104,60 +159,69 @@ fn matcher(words: &[u32], at: usize) -> Matcher {
     )
 }
 
-fn answered(q: Question, row: &[u32], sets: &[u16], words: &[u32], k: usize) -> Replayed {
-    let m = q.matcher;
-    let s = q.sign;
-    match q.op % 100 {
-        30 => said_is(
+// What we answer, and whether it is the answer that stands from word `at` on.
+fn answered(question: Question, row: &[u32], sets: &[u16], words: &[u32], at: usize) -> Replayed {
+    let Question {
+        operation,
+        matcher,
+        sign,
+        syllable,
+        place,
+        len,
+    } = question;
+    match operation {
+        Operation::MaySkip => said_is(
             words,
-            verdict_ask::ask_skip(row, q.place, m, sets).map(|said| said as u32),
-            k,
+            verdict_ask::ask_skip(row, place, matcher, sets).map(|said| said as u32),
+            at,
         ),
-        31 => said_is(
+        Operation::Verdict => said_is(
             words,
-            verdict_ask::ask_verdict(row, q.place, m, s, q.syllable, sets).map(|said| said as u32),
-            k,
+            verdict_ask::ask_verdict(row, place, matcher, sign, syllable, sets).map(
+                |said| said as u32,
+            ),
+            at,
         ),
-        32 => walk_is(
+        Operation::Forward => walk_is(
             words,
-            walk::forward(row, q.len, q.place, m, s, q.syllable, sets),
-            k,
+            walk::forward(row, len, place, matcher, sign, syllable, sets),
+            at,
         ),
-        34 => said_is(
+        Operation::MayMatch => said_is(
             words,
-            verdict_ask::ask_match(row, q.place, m, s, q.syllable).map(|said| said as u32),
-            k,
+            verdict_ask::ask_match(row, place, matcher, sign, syllable).map(|said| said as u32),
+            at,
         ),
-        _ => walk_is(
+        Operation::Backward | Operation::Unknown => walk_is(
             words,
-            walk::backward(row, q.place, m, s, q.syllable, sets),
-            k,
+            walk::backward(row, place, matcher, sign, syllable, sets),
+            at,
         ),
     }
 }
 
 // An answer by its place in its list. A refusal is no answer of the original's.
-fn said_is(words: &[u32], said: Result<u32, IllShaped>, k: usize) -> Replayed {
+fn said_is(words: &[u32], said: Result<u32, IllShaped>, at: usize) -> Replayed {
     Replayed {
-        right: word(words, k) == said.unwrap_or(9),
-        next: after(k, 1),
+        right: word(words, at) == said.unwrap_or(9),
+        next: after(at, 1),
     }
 }
 
-fn walk_is(words: &[u32], walked: Result<Walked, IllShaped>, k: usize) -> Replayed {
+fn walk_is(words: &[u32], walked: Result<Walked, IllShaped>, at: usize) -> Replayed {
     match walked {
-        Ok(Walked::Found(p)) => three_are(words, 0, 0, p, k),
-        Ok(Walked::Stopped(e)) => three_are(words, 4, 0, e, k),
-        Ok(Walked::RanOut(e)) => three_are(words, 4, 1, e, k),
-        Err(IllShaped) => three_are(words, 1, 0, 0, k),
+        Ok(Walked::Found(place)) => three_are(words, 0, 0, place, at),
+        Ok(Walked::Stopped(end)) => three_are(words, 4, 0, end, at),
+        Ok(Walked::RanOut(end)) => three_are(words, 4, 1, end, at),
+        Err(IllShaped) => three_are(words, 1, 0, 0, at),
     }
 }
 
-fn three_are(words: &[u32], number: u32, ran_out: u32, place: usize, k: usize) -> Replayed {
+fn three_are(words: &[u32], number: u32, ran_out: u32, place: usize, at: usize) -> Replayed {
     Replayed {
-        right: word(words, k) == number
-            && word(words, after(k, 1)) == ran_out
-            && size(words, after(k, 2)) == place,
-        next: after(k, 3),
+        right: word(words, at) == number
+            && word(words, after(at, 1)) == ran_out
+            && size(words, after(at, 2)) == place,
+        next: after(at, 3),
     }
 }
