@@ -8,10 +8,8 @@
 // An operation of 100 to 199 is the same question where ours and the original's answers differ (docs/DIFFERENCES.md), with ours.
 #![tactic(auto)]
 
-ghost use Rattle.std.specs.Prelude.{◌≤◌};
-
 use matching::{InputAnswer, InputMatch, NoMatch, Refusal, Success};
-use run::{Given, RunRefusal};
+use run::{Ending, Given, RunRefusal};
 use run_calls::RunAnswer;
 use std::io;
 use stored::{Replayed, Span, after, list, listed, more, size, slots_are, word};
@@ -43,11 +41,27 @@ struct Refusals {
     by_7: u64,
 }
 
-// A line that was replayed, and the number that we answered.
+// What a line's number says: whether six words more follow it (51 and 251), and whether its answer is ours where the original's is another.
+#[derive(Clone, Copy, Debug, PartialEq, Eq)]
+struct Operation {
+    opens: bool,
+    differs: bool,
+}
+
+impl From<u32> for Operation {
+    fn from(number: u32) -> Operation {
+        Operation {
+            opens: number % 100 == 51,
+            differs: matches!(number, 100..=199),
+        }
+    }
+}
+
+// A line that was replayed, and how the run ended, or what it was refused for.
 #[derive(Clone, Copy)]
 struct Answered {
     line: Replayed,
-    number: u32,
+    ended: Result<Ending, RunRefusal>,
 }
 
 // What a line says of the rows, how the match was answered, and where the line goes on as one of 50.
@@ -58,7 +72,7 @@ struct Opening {
     coming: usize,
     before: u32,
     after: u32,
-    matched: u32,
+    matched: InputAnswer,
     at: usize,
 }
 
@@ -77,73 +91,74 @@ fn main(rt: HostRuntime) -> io::Result<()> {
     report(&rt, stored::replay_input())
 }
 
-fn report(rt: &impl Print, t: Tally) -> io::Result<()> {
+fn report(rt: &impl Print, tally: Tally) -> io::Result<()> {
     print!(rt;
         "finished {}, short {}, deep {}, full {}",
-        t.finished, t.short, t.deep, t.full
+        tally.finished, tally.short, tally.deep, tally.full
     )?;
-    report_refused(rt, t.refused)?;
+    report_refused(rt, tally.refused)?;
     println!(rt;
         "; other cells not 0 {}, differences {}; answered otherwise {}",
-        t.filled, t.differences, t.wrong
+        tally.filled, tally.differences, tally.wrong
     )
 }
 
-fn report_refused(rt: &impl Print, r: Refusals) -> io::Result<()> {
+fn report_refused(rt: &impl Print, refused: Refusals) -> io::Result<()> {
     print!(rt;
         "; refused by 1: {}, by 2: {}, by 12: {}, by 11: {}, by 7: {}",
-        r.by_1, r.by_2, r.by_12, r.by_11, r.by_7
+        refused.by_1, refused.by_2, refused.by_12, refused.by_11, refused.by_7
     )
 }
 
 impl stored::Tally for Tally {
     fn replay_line(&mut self, words: &[u32], at: usize) -> usize {
-        let opening = opening_at(words, at);
-        let said = one(words, opening);
-        self.count(
-            word(words, at),
-            opening.before,
-            said.number,
-            said.line.right,
-        );
-        said.line.next
+        let operation = Operation::from(word(words, at));
+        let opening = opening_at(words, operation, at);
+        let answered = one(words, opening);
+        self.count(operation, opening.before, answered);
+        answered.line.next
     }
 }
 
 impl Tally {
-    // One line more: its operation, what the other cells held, the number that we answered, and whether the answer was the stored one.
-    fn count(&mut self, op: u32, filler: u32, n: u32, right: bool) {
-        self.finished = more(self.finished, n == 0);
-        self.short = more(self.short, n == 8);
-        self.deep = more(self.deep, n == 9);
-        self.full = more(self.full, n == 10);
-        self.refused.count(n);
+    // One line more: its operation, what the other cells held, and what we answered.
+    fn count(&mut self, operation: Operation, filler: u32, answered: Answered) {
+        match answered.ended {
+            Ok(Ending::Finished) => self.finished = more(self.finished, true),
+            Ok(Ending::Short) => self.short = more(self.short, true),
+            Ok(Ending::Deep) => self.deep = more(self.deep, true),
+            Ok(Ending::Full) => self.full = more(self.full, true),
+            Err(why) => self.refused.count(why),
+        }
         self.filled = more(self.filled, filler != 0);
-        self.differences = more(self.differences, 100 <= op && op < 200);
-        self.wrong = more(self.wrong, !right);
+        self.differences = more(self.differences, operation.differs);
+        self.wrong = more(self.wrong, !answered.line.right);
     }
 }
 
 impl Refusals {
-    fn count(&mut self, n: u32) {
-        self.by_1 = more(self.by_1, n == 1);
-        self.by_2 = more(self.by_2, n == 2);
-        self.by_12 = more(self.by_12, n == 12);
-        self.by_11 = more(self.by_11, n == 11);
-        self.by_7 = more(self.by_7, n == 7);
+    fn count(&mut self, why: RunRefusal) {
+        match why {
+            RunRefusal::Shape => self.by_1 = more(self.by_1, true),
+            RunRefusal::Cursor => self.by_2 = more(self.by_2, true),
+            RunRefusal::Limits => self.by_12 = more(self.by_12, true),
+            RunRefusal::Book => self.by_11 = more(self.by_11, true),
+            RunRefusal::Match => self.by_7 = more(self.by_7, true),
+        }
     }
 }
 
-fn opening_at(words: &[u32], at: usize) -> Opening {
-    if word(words, at) % 100 == 51 {
+fn opening_at(words: &[u32], operation: Operation, at: usize) -> Opening {
+    if operation.opens {
+        let rest = after(at, 7);
         Opening {
             d: size(words, after(at, 1)),
             done: size(words, after(at, 2)),
             coming: size(words, after(at, 3)),
             before: word(words, after(at, 4)),
             after: word(words, after(at, 5)),
-            matched: word(words, after(at, 6)),
-            at: after(at, 7),
+            matched: match_answer(words, word(words, after(at, 6)), rest),
+            at: rest,
         }
     } else {
         Opening {
@@ -152,15 +167,14 @@ fn opening_at(words: &[u32], at: usize) -> Opening {
             coming: ROW,
             before: 0,
             after: 0,
-            matched: 0,
+            matched: match_answer(words, 0, at),
             at,
         }
     }
 }
 
 fn glyphs_done(words: &[u32], at: usize) -> usize {
-    let l = lists_of(words, at);
-    listed(words, l.done).len() / glyph::WORDS
+    listed(words, lists_of(words, at).done).len() / glyph::WORDS
 }
 
 fn lists_of(words: &[u32], at: usize) -> Lists {
@@ -189,38 +203,45 @@ fn list_room() -> [u16; 4200] {
     [0; 4200]
 }
 
-fn one(words: &[u32], o: Opening) -> Answered {
-    let l = lists_of(words, o.at);
+fn one(words: &[u32], opening: Opening) -> Answered {
+    let lists = lists_of(words, opening.at);
     let mut sets = list_room();
-    let s = stored::narrow(listed(words, l.marks), &mut sets);
+    let of_sets = stored::narrow(listed(words, lists.marks), &mut sets);
     let mut book = list_room();
-    let b = stored::narrow(listed(words, l.book), &mut book);
+    let of_book = stored::narrow(listed(words, lists.book), &mut book);
     let mut records = list_room();
-    let r = stored::narrow(listed(words, l.records), &mut records);
-    asked(words, o, l, &sets[..s], &book[..b], &records[..r])
+    let of_records = stored::narrow(listed(words, lists.records), &mut records);
+    asked(
+        words,
+        opening,
+        lists,
+        &sets[..of_sets],
+        &book[..of_book],
+        &records[..of_records],
+    )
 }
 
 fn asked(
     words: &[u32],
-    o: Opening,
-    l: Lists,
+    opening: Opening,
+    lists: Lists,
     sets: &[u16],
     book: &[u16],
     records: &[u16],
 ) -> Answered {
-    let mut done = row_room(o.before);
-    put(&mut done, 0, listed(words, l.done));
-    let n = o.done.min(ROOM);
-    let mut coming = row_room(o.before);
-    let ahead = listed(words, l.coming);
-    let m = o.coming.min(ROOM);
-    put(&mut coming, m.saturating_sub(ahead.len()), ahead);
+    let mut done = row_room(opening.before);
+    put(&mut done, 0, listed(words, lists.done));
+    let done_len = opening.done.min(ROOM);
+    let mut coming = row_room(opening.before);
+    let ahead = listed(words, lists.coming);
+    let coming_len = opening.coming.min(ROOM);
+    put(&mut coming, coming_len.saturating_sub(ahead.len()), ahead);
     ran(
         words,
-        o,
-        l,
-        &mut done[0..n],
-        &mut coming[0..m],
+        opening,
+        lists,
+        &mut done[0..done_len],
+        &mut coming[0..coming_len],
         sets,
         book,
         records,
@@ -229,29 +250,29 @@ fn asked(
 
 fn ran(
     words: &[u32],
-    o: Opening,
-    l: Lists,
+    opening: Opening,
+    lists: Lists,
     done: &mut [u32],
     coming: &mut [u32],
     sets: &[u16],
     book: &[u16],
     records: &[u16],
 ) -> Answered {
-    let at = o.at;
+    let at = opening.at;
     let answer = run_calls::run(
         done,
         coming,
-        o.d,
+        opening.d,
         size(words, after(at, 7)),
         sets,
         book,
         records,
-        matched(words, at, o.matched, l.positions),
+        matched(words, opening.matched, lists.positions),
         given(words, at),
         word(words, after(at, 5)),
         size(words, after(at, 6)),
     );
-    told(words, answer, done, coming, o.after, l.coming.to)
+    told(words, answer, done, coming, opening.after, lists.coming.to)
 }
 
 fn given(words: &[u32], at: usize) -> Given {
@@ -263,11 +284,9 @@ fn given(words: &[u32], at: usize) -> Given {
     }
 }
 
-fn matched(words: &[u32], at: usize, number: u32, places: Span) -> InputMatch {
+fn matched(words: &[u32], answer: InputAnswer, places: Span) -> InputMatch {
     let mut positions = [0u16; 64];
     stored::narrow(listed(words, places), &mut positions);
-    let total = (word(words, after(at, 9)) % 65536) as u16;
-    let answer = match_answer(number, size(words, after(at, 8)), total);
     InputMatch {
         answer,
         count: places.to.saturating_sub(places.from),
@@ -275,8 +294,10 @@ fn matched(words: &[u32], at: usize, number: u32, places: Span) -> InputMatch {
     }
 }
 
-// What a matcher says by each of 01's numbers; of 4 the extent stands for the end.
-fn match_answer(number: u32, end: usize, total: u16) -> InputAnswer {
+// What a matcher says by each of 01's numbers, with a line's end and total; of 4 the extent stands for the end.
+fn match_answer(words: &[u32], number: u32, at: usize) -> InputAnswer {
+    let end = size(words, after(at, 8));
+    let total = (word(words, after(at, 9)) % 65536) as u16;
     match number {
         0 => Ok(Success { end, total }),
         1 => Err(NoMatch::Refused(Refusal::Shape)),
@@ -297,22 +318,22 @@ fn put(row: &mut [u32], from: usize, words: &[u32]) {
     }
 }
 
-// The answer, then both rows. Of a refusal all but the number is 0.
+// The answer, from a word on, then both rows. Of a refusal all but the number is 0.
 fn told(
     words: &[u32],
     answer: Result<RunAnswer, RunRefusal>,
     done: &[u32],
     coming: &[u32],
     filler: u32,
-    k: usize,
+    at: usize,
 ) -> Answered {
-    let number = run::number_of(answer.map(|a| a.ending)) as u32;
-    let count = size(words, after(k, 4));
-    let before = list(words, after(after(k, 5), count));
+    let ended = answer.map(|said| said.ending);
+    let count = size(words, after(at, 4));
+    let before = list(words, after(after(at, 5), count));
     let ahead = list(words, before.to);
     let line = Replayed {
-        right: word(words, k) == number
-            && is_said(words, answer, k)
+        right: word(words, at) == run::number_of(ended) as u32
+            && is_said(words, answer, at)
             && rows_are(
                 listed(words, before),
                 listed(words, ahead),
@@ -322,21 +343,21 @@ fn told(
             ),
         next: ahead.to,
     };
-    Answered { line, number }
+    Answered { line, ended }
 }
 
 // Spent, d, idx, the count and the positions are the stored ones.
-fn is_said(words: &[u32], answer: Result<RunAnswer, RunRefusal>, k: usize) -> bool {
-    let count = size(words, after(k, 4));
+fn is_said(words: &[u32], answer: Result<RunAnswer, RunRefusal>, at: usize) -> bool {
+    let count = size(words, after(at, 4));
     match answer {
-        Ok(a) => word(words, after(k, 1)) == a.spent
-            && size(words, after(k, 2)) == a.d
-            && size(words, after(k, 3)) == a.idx
-            && count == a.count
-            && slots_are(words, &a.positions, after(k, 5), count),
-        Err(_) => word(words, after(k, 1)) == 0
-            && size(words, after(k, 2)) == 0
-            && size(words, after(k, 3)) == 0
+        Ok(said) => word(words, after(at, 1)) == said.spent
+            && size(words, after(at, 2)) == said.d
+            && size(words, after(at, 3)) == said.idx
+            && count == said.count
+            && slots_are(words, &said.positions, after(at, 5), count),
+        Err(_) => word(words, after(at, 1)) == 0
+            && size(words, after(at, 2)) == 0
+            && size(words, after(at, 3)) == 0
             && count == 0,
     }
 }
