@@ -7,6 +7,7 @@
 #![tactic(auto)]
 
 use matching::{ContextMatch, InputAnswer, InputMatch, NoContext, NoMatch, Success, Terms};
+use matching_calls::{match_backtrack, match_input, match_lookahead};
 use std::io;
 use stored::{Replayed, after, list, listed, more, size, slots_are, word};
 use verdict::Test;
@@ -20,44 +21,94 @@ struct Tally {
     wrong: u64,
 }
 
+// What a line asks.
+#[derive(Clone, Copy, Debug, PartialEq, Eq)]
+enum Operation {
+    Input,
+    Lookahead,
+    Backtrack,
+    // A damaged list's: asked as backtrack, and counted as none of these.
+    Unknown,
+}
+
+// Whose a line's answer is: the original's, or ours, where the original's is another.
+#[derive(Clone, Copy, Debug, PartialEq, Eq)]
+enum Origin {
+    Original,
+    Difference,
+}
+
+// Both are of a line's number: its hundreds say the origin, and what is left of it the operation.
+impl From<u32> for Operation {
+    fn from(number: u32) -> Operation {
+        match number % 100 {
+            40 => Operation::Input,
+            41 => Operation::Lookahead,
+            42 => Operation::Backtrack,
+            _ => Operation::Unknown,
+        }
+    }
+}
+
+impl From<u32> for Origin {
+    fn from(number: u32) -> Origin {
+        match number {
+            0..=99 => Origin::Original,
+            _ => Origin::Difference,
+        }
+    }
+}
+
 fn main(rt: HostRuntime) -> io::Result<()> {
-    let t: Tally = stored::replay_input();
+    let tally: Tally = stored::replay_input();
     println!(rt;
         "input {}, lookahead {}, backtrack {}, differences {}; answered otherwise {}",
-        t.input, t.lookahead, t.backtrack, t.differences, t.wrong
+        tally.input, tally.lookahead, tally.backtrack, tally.differences, tally.wrong
     )
 }
 
 impl stored::Tally for Tally {
     fn replay_line(&mut self, words: &[u32], at: usize) -> usize {
-        let line = one(words, at);
-        self.count(word(words, at), line.right);
+        let number = word(words, at);
+        let operation = Operation::from(number);
+        let line = one(words, operation, at);
+        self.count(operation, Origin::from(number), line.right);
         line.next
     }
 }
 
 impl Tally {
     // One line more.
-    fn count(&mut self, op: u32, right: bool) {
-        self.input = more(self.input, op == 40);
-        self.lookahead = more(self.lookahead, op == 41);
-        self.backtrack = more(self.backtrack, op == 42);
-        self.differences = more(self.differences, 100 <= op);
+    fn count(&mut self, operation: Operation, origin: Origin, right: bool) {
+        match origin {
+            Origin::Original => self.count_original(operation),
+            Origin::Difference => self.differences = more(self.differences, true),
+        }
         self.wrong = more(self.wrong, !right);
+    }
+
+    fn count_original(&mut self, operation: Operation) {
+        match operation {
+            Operation::Input => self.input = more(self.input, true),
+            Operation::Lookahead => self.lookahead = more(self.lookahead, true),
+            Operation::Backtrack => self.backtrack = more(self.backtrack, true),
+            Operation::Unknown => {}
+        }
     }
 }
 
-fn one(words: &[u32], at: usize) -> Replayed {
+fn one(words: &[u32], operation: Operation, at: usize) -> Replayed {
     let marks = list(words, after(at, 12));
     let values = list(words, marks.to);
     let done = list(words, values.to);
     let coming = list(words, done.to);
     let mut sets = [0u16; 512];
-    let n = stored::narrow(listed(words, marks), &mut sets);
+    let count = stored::narrow(listed(words, marks), &mut sets);
     asked(
         words,
+        operation,
         at,
-        &sets[..n],
+        &sets[..count],
         listed(words, values),
         listed(words, done),
         listed(words, coming),
@@ -65,47 +116,38 @@ fn one(words: &[u32], at: usize) -> Replayed {
     )
 }
 
+// What we answer of the line from word `at` on, and whether it is the answer that stands from word `answer` on.
 fn asked<'a>(
     words: &[u32],
+    operation: Operation,
     at: usize,
     sets: &[u16],
     values: &[u32],
     done: &'a [u32],
     coming: &'a [u32],
-    k: usize,
+    answer: usize,
 ) -> Replayed {
     let terms = terms_at(words, at);
     let test = Test::from((word(words, after(at, 7)) % 256) as u8);
     let d = size(words, after(at, 8));
     let len = size(words, after(at, 9));
     let idx = size(words, after(at, 10));
-    let op = word(words, at) % 100;
-    match op {
-        40 => input_is(
+    let start = size(words, after(at, 11));
+    match operation {
+        Operation::Input => input_is(
             words,
-            matching_calls::match_input(done, d, coming, len, idx, terms, sets, test, values),
-            k,
+            match_input(done, d, coming, len, idx, terms, sets, test, values),
+            answer,
         ),
-        41 => context_is(
+        Operation::Lookahead => context_is(
             words,
-            matching_calls::match_lookahead(
-                done,
-                d,
-                coming,
-                len,
-                idx,
-                size(words, after(at, 11)),
-                terms,
-                sets,
-                test,
-                values,
-            ),
-            k,
+            match_lookahead(done, d, coming, len, idx, start, terms, sets, test, values),
+            answer,
         ),
-        _ => context_is(
+        Operation::Backtrack | Operation::Unknown => context_is(
             words,
-            matching_calls::match_backtrack(done, d, coming, len, idx, terms, sets, test, values),
-            k,
+            match_backtrack(done, d, coming, len, idx, terms, sets, test, values),
+            answer,
         ),
     }
 }
@@ -118,37 +160,37 @@ fn terms_at(words: &[u32], at: usize) -> Terms {
     }
 }
 
-fn context_is(words: &[u32], c: ContextMatch, k: usize) -> Replayed {
-    match c {
-        Ok(place) => place_is(words, 0, place, k),
-        Err(NoContext::Refused(why)) => place_is(words, why as u32, 0, k),
-        Err(NoContext::Lost(extent)) => place_is(words, 4, extent, k),
+fn context_is(words: &[u32], context: ContextMatch, at: usize) -> Replayed {
+    match context {
+        Ok(place) => place_is(words, 0, place, at),
+        Err(NoContext::Refused(why)) => place_is(words, why as u32, 0, at),
+        Err(NoContext::Lost(extent)) => place_is(words, 4, extent, at),
     }
 }
 
-fn place_is(words: &[u32], number: u32, place: usize, k: usize) -> Replayed {
+fn place_is(words: &[u32], number: u32, place: usize, at: usize) -> Replayed {
     Replayed {
-        right: word(words, k) == number && size(words, after(k, 1)) == place,
-        next: after(k, 2),
+        right: word(words, at) == number && size(words, after(at, 1)) == place,
+        next: after(at, 2),
     }
 }
 
-fn input_is(words: &[u32], m: InputMatch, k: usize) -> Replayed {
-    let count = size(words, after(k, 3));
-    let same = slots_are(words, &m.positions, after(k, 4), count) && m.count == count;
+fn input_is(words: &[u32], input: InputMatch, at: usize) -> Replayed {
+    let count = size(words, after(at, 3));
+    let same = slots_are(words, &input.positions, after(at, 4), count) && input.count == count;
     Replayed {
-        right: answer_is(words, m.answer, k) && same,
-        next: after(after(k, 4), count),
+        right: answer_is(words, input.answer, at) && same,
+        next: after(after(at, 4), count),
     }
 }
 
-fn answer_is(words: &[u32], answer: InputAnswer, k: usize) -> bool {
+fn answer_is(words: &[u32], answer: InputAnswer, at: usize) -> bool {
     match answer {
-        Ok(Success { end, total }) => place_is(words, 0, end, k).right
-            && total_is(word(words, after(k, 2)), total),
-        Err(NoMatch::Refused(why)) => place_is(words, why as u32, 0, k).right,
-        Err(NoMatch::Lost(extent)) => place_is(words, 4, extent, k).right,
-        Err(NoMatch::Ligature) => place_is(words, 5, 0, k).right,
+        Ok(Success { end, total }) => place_is(words, 0, end, at).right
+            && total_is(word(words, after(at, 2)), total),
+        Err(NoMatch::Refused(why)) => place_is(words, why as u32, 0, at).right,
+        Err(NoMatch::Lost(extent)) => place_is(words, 4, extent, at).right,
+        Err(NoMatch::Ligature) => place_is(words, 5, 0, at).right,
     }
 }
 
