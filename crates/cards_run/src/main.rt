@@ -59,7 +59,7 @@ fn say(rt: &impl Print, card: &str, m: InputMatch) -> io::Result<()> {
             "{card} 0 end {end} total {total} positions {}",
             m.count
         ),
-        Err(NoMatch::Refused(why)) => println!(rt; "{card} {}", why as u8),
+        Err(NoMatch::Refused(why)) => println!(rt; "{card} {}", u8::from(why)),
         Err(NoMatch::Lost(extent)) => println!(rt; "{card} 4 extent {extent}"),
         Err(NoMatch::Ligature) => println!(rt; "{card} 5"),
     }

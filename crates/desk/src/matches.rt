@@ -133,7 +133,7 @@ fn input_told(m: InputMatch) -> Matched
     let positions = m.positions;
     match m.answer {
         Ok(Success { end, total }) => told(0, end, total, count, positions),
-        Err(NoMatch::Refused(why)) => told(why as u8, 0, 0, count, positions),
+        Err(NoMatch::Refused(why)) => told(u8::from(why), 0, 0, count, positions),
         Err(NoMatch::Lost(extent)) => told(4, extent, 0, count, positions),
         Err(NoMatch::Ligature) => told(5, 0, 0, count, positions),
     }
@@ -157,7 +157,7 @@ fn context_told(c: ContextMatch) -> Placed
     match c {
         Ok(place) => Placed { number: 0, place },
         Err(NoContext::Refused(why)) => Placed {
-            number: why as u8,
+            number: u8::from(why),
             place: 0,
         },
         Err(NoContext::Lost(extent)) => Placed {

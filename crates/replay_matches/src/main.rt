@@ -163,7 +163,7 @@ fn terms_at(words: &[u32], at: usize) -> Terms {
 fn context_is(words: &[u32], context: ContextMatch, at: usize) -> Replayed {
     match context {
         Ok(place) => place_is(words, 0, place, at),
-        Err(NoContext::Refused(why)) => place_is(words, why as u32, 0, at),
+        Err(NoContext::Refused(why)) => place_is(words, u8::from(why) as u32, 0, at),
         Err(NoContext::Lost(extent)) => place_is(words, 4, extent, at),
     }
 }
@@ -188,7 +188,7 @@ fn answer_is(words: &[u32], answer: InputAnswer, at: usize) -> bool {
     match answer {
         Ok(Success { end, total }) => place_is(words, 0, end, at).right
             && total_is(word(words, after(at, 2)), total),
-        Err(NoMatch::Refused(why)) => place_is(words, why as u32, 0, at).right,
+        Err(NoMatch::Refused(why)) => place_is(words, u8::from(why) as u32, 0, at).right,
         Err(NoMatch::Lost(extent)) => place_is(words, 4, extent, at).right,
         Err(NoMatch::Ligature) => place_is(words, 5, 0, at).right,
     }
