@@ -168,6 +168,7 @@ fn context_is(words: &[u32], context: ContextMatch, at: usize) -> Replayed {
     }
 }
 
+// An answer is compared by 01's number, since a list has no more than that and the place.
 fn place_is(words: &[u32], number: u32, place: usize, at: usize) -> Replayed {
     Replayed {
         right: word(words, at) == number && size(words, after(at, 1)) == place,

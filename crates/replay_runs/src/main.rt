@@ -318,7 +318,7 @@ fn put(row: &mut [u32], from: usize, words: &[u32]) {
     }
 }
 
-// The answer, from a word on, then both rows. Of a refusal all but the number is 0.
+// The answer, from a word on, then both rows: a list has 01's number of it, so it is compared by that. Of a refusal all but the number is 0.
 fn told(
     words: &[u32],
     answer: Result<RunAnswer, RunRefusal>,

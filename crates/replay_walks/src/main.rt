@@ -208,6 +208,7 @@ fn said_is(words: &[u32], said: Result<u32, IllShaped>, at: usize) -> Replayed {
     }
 }
 
+// A walk stays numbers here, since a list has it so: 01's number, whether it ran out, the place.
 fn walk_is(words: &[u32], walked: Result<Walked, IllShaped>, at: usize) -> Replayed {
     match walked {
         Ok(Walked::Found(place)) => three_are(words, 0, 0, place, at),
