@@ -123,6 +123,20 @@ fn decoded(text: &[u8]) -> String {
     format!("{:?}", &words[..n])
 }
 
+// The places where lines are replayed, each of as many words as its first says.
+fn replayed(words: &[u32]) -> String {
+    #[derive(Debug, Default)]
+    struct Places(Vec<usize>);
+    impl stored::Tally for Places {
+        fn replay_line(&mut self, words: &[u32], at: usize) -> usize {
+            self.0.push(at);
+            at + words[at] as usize
+        }
+    }
+    let places: Places = stored::replay(words, words.len());
+    format!("{:?}", places.0)
+}
+
 // Words put into a line of dots.
 fn put(words: &[u8], length: usize, at: usize) -> String {
     let mut line = vec![b'.'; length];

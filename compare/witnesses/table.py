@@ -914,6 +914,8 @@ TABLE = {
     },
     "stored": {
         "a_is_eleven": (call("decoded", b"0000000A "), "[10]", "[11]"),
+        "the_first_line_stands_at_one": (call("replayed", [2, 1, 1]), "[0, 2]", "[1, 2]"),
+        "the_same_line_is_replayed_again": (call("replayed", [2, 1, 1]), "[0, 2]", "[0, 0, 0]"),
         "words_stand_eight_bytes_apart": (call("decoded", b"00000001 00000002 "), "[1, 2]", "[1, 0]"),
     },
 }

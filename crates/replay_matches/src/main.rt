@@ -60,7 +60,9 @@ impl From<u32> for Origin {
 }
 
 fn main(rt: HostRuntime) -> io::Result<()> {
-    let tally: Tally = stored::replay_input();
+    let mut words = stored::word_room();
+    let count = stored::read_list(&mut words);
+    let tally: Tally = stored::replay(&words, count);
     println!(rt;
         "input {}, lookahead {}, backtrack {}, differences {}; answered otherwise {}",
         tally.input, tally.lookahead, tally.backtrack, tally.differences, tally.wrong

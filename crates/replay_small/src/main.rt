@@ -80,7 +80,9 @@ impl From<u32> for Operation {
 }
 
 fn main(rt: HostRuntime) -> io::Result<()> {
-    let tally: Tally = stored::replay_input();
+    let mut words = stored::word_room();
+    let count = stored::read_list(&mut words);
+    let tally: Tally = stored::replay(&words, count);
     println!(rt;
         "set digests {}, rule set digests {}, allowances {}; answered otherwise {}",
         tally.sets, tally.rules, tally.allowances, tally.wrong

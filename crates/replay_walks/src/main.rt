@@ -80,7 +80,9 @@ struct Question {
 }
 
 fn main(rt: HostRuntime) -> io::Result<()> {
-    report(&rt, stored::replay_input())
+    let mut words = stored::word_room();
+    let count = stored::read_list(&mut words);
+    report(&rt, stored::replay(&words, count))
 }
 
 fn report(rt: &impl Print, tally: Tally) -> io::Result<()> {

@@ -2,9 +2,10 @@
 // list share.
 #![tactic(auto)]
 
-ghost use Rattle.std.specs.Prelude.{◌≡◌, ℕ, ◌+◌, ◌*◌, ◌/◌, ◌%◌, ◌^◌, ◌<◌, ◌≤◌, min, Bool, length, if◌then◌else◌, nat_lt, slice_index};
+ghost use Rattle.std.specs.Prelude.{◌≡◌, ⊤, ℕ, ◌+◌, ◌*◌, ◌/◌, ◌%◌, ◌^◌, ◌<◌, ◌≤◌, min, Bool, length, if◌then◌else◌, nat_lt, slice_index, List};
 ghost use Rattle.io.specs.Counts.{IsPrefixLen};
 ghost use Rattle.stored.specs.Stored.{hex_digit, byte_at, word_from, stored_word, number_at, part_between, span_from, settings_from, slot_is};
+ghost use Rattle.stored.specs.Replay.{ReplayedTo};
 ghost use Rattle.bits.specs.Bits.{every};
 
 use verdict::{Settings, Table};
@@ -47,18 +48,18 @@ pub fn word_room() -> [u32; WORDS_OF_A_LIST] {
 
 // What a list's lines come to: each is replayed at its first word, is counted, and says where the next begins.
 pub trait Tally: Default {
-    fn replay_line(&mut self, words: &[u32], at: usize) -> usize;
+    // What replaying a line does: the tally before, the words, the line's place, the place of the next, the tally after.
+    ghost line_gives: { Self → List ℕ → ℕ → ℕ → Self → Type 0 } = { λ _ _ _ _ _. ⊤ };
+
+    fn replay_line(&mut self, words: &[u32], at: usize) -> usize
+        ensures { line_gives self.old words.now at result self.new };
 }
 
-// The list on standard input, replayed.
-pub fn replay_input<T: Tally>() -> T {
-    let mut words = word_room();
-    let count = read_list(&mut words);
-    replay(&words, count)
-}
-
-// A line takes no less than a word, so there are no more lines than words.
-pub fn replay<T: Tally>(words: &[u32], count: usize) -> T {
+// The lines of the first `count` words, from word 0 on. A line takes no less than a word, so there are no more lines than words.
+#[tactic(auto, using(crate::proofs::Turns::none_left, crate::proofs::Turns::one_more))]
+pub fn replay<T: Tally>(words: &[u32], count: usize) -> T
+    ensures { (first : T) × T.is_default first × ReplayedTo T.line_gives words.now count count first 0 result }
+{
     let mut tally = T::default();
     let mut at = 0;
     for _ in 0..count {
