@@ -1,7 +1,7 @@
 #!/usr/bin/env python3
 """The places of docs/DESIGN-PASS.md's points in crates/*/src, by the text alone.
 
-    tools/design_places.py           how many, by point and kind
+    tools/design_places.py           how many, by point and kind; an impl of From is a conversion as it should be, and isn't counted
     tools/design_places.py --list    each place too
 """
 import re
@@ -121,11 +121,11 @@ def places():
                 found["4 types that derive no equality"].append(f"{where} {name}")
         for name, parameters, result, clauses, body in functions(text):
             place = f"{where} {name}"
-            if re.search(NUMBERS, parameters) or (result == "u8" and re.search("number", name)):
+            if name != "from" and (re.search(NUMBERS, parameters) or (result == "u8" and re.search("number", name))):
                 found["1 numbers for kinds or refusals"].append(place)
             for loop in re.finditer(r"\b(while|loop)\b", body):
                 found["3 loops by hand"].append(place)
-            if re.fullmatch(r"\w+ as \w+", body):
+            if name != "from" and re.fullmatch(r"\w+ as \w+", body):
                 found["4 conversions by hand"].append(place)
             arms = re.fullmatch(r"match \w+ \{(.*)\}", body, re.S)
             if arms and re.fullmatch(r"(\s*[^=]+=>\s*(true|false),)+\s*", arms[1]):
@@ -142,7 +142,7 @@ def places():
             groups[name] = set(of)
             if re.search(r"\b(back|context): bool", parameters):
                 found["7 a flag says which step"].append(place)
-            if re.search(r"\bmatch (op|number|kind)\b", body):
+            if name != "from" and re.search(r"\bmatch (op|number|kind)\b", body):
                 found["7 a number says which step"].append(place)
         for fact, names in facts.items():
             if len(names) >= 3:
