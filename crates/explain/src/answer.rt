@@ -6,15 +6,15 @@ fn positions(line: &mut Line, count: usize, places: &[u16]) {
     for &place in places.iter().take(count) {
         line.room();
         line.say(b" ");
-        line.number(place as u32);
+        line.number(place as u64);
     }
 }
 
 fn matched(line: &mut Line, m: InputMatch, success: Success) {
     line.say(b"matched, end ");
-    line.number((success.end % 65536) as u32);
+    line.number(success.end as u64);
     line.say(b", total ");
-    line.number(success.total as u32);
+    line.number(success.total as u64);
     line.say(b", positions");
     positions(line, m.count, &m.positions);
 }
@@ -30,7 +30,7 @@ fn refused(line: &mut Line, why: Refusal) {
 
 fn lost(line: &mut Line, extent: usize) {
     line.say(b"refusal 4: a walk stopped or ran out, extent ");
-    line.number((extent % 65536) as u32);
+    line.number(extent as u64);
 }
 
 pub(crate) fn in_words(line: &mut Line, m: InputMatch) {
@@ -46,10 +46,7 @@ pub(crate) fn in_words(line: &mut Line, m: InputMatch) {
 
 // The answer's digits, as many as fit a line, and the others in the next.
 fn digits(line: &mut Line, answer: &[u8]) {
-    for &digit in answer {
-        if digit == tape_answer::NEWLINE {
-            return;
-        }
+    for &digit in answer.iter().take_while(|b| **b != tape_answer::NEWLINE) {
         line.room();
         line.say(&[digit]);
     }

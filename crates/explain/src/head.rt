@@ -22,7 +22,7 @@ fn settings(line: &mut Line, s: Settings) {
 
 fn line_of(line: &mut Line, number: u64) {
     line.say(b"line ");
-    line.number((number % 4294967296) as u32);
+    line.number(number % 4294967296);
 }
 
 fn opening(line: &mut Line, number: u64, s: Settings) {
@@ -38,12 +38,12 @@ fn opening(line: &mut Line, number: u64, s: Settings) {
 fn marks(line: &mut Line, props: u32) {
     if props / 16 % 2 == 1 {
         line.say(b" uses mark set ");
-        line.number(props / 65536);
+        line.number((props / 65536) as u64);
         return;
     }
     if props / 256 % 256 != 0 {
         line.say(b" asks attachment class ");
-        line.number(props / 256 % 256);
+        line.number((props / 256 % 256) as u64);
         return;
     }
     if props / 2 % 8 == 0 {
@@ -72,7 +72,7 @@ fn counted(line: &mut Line, name: &[u8], n: usize)
     requires { length name.now ≤ 96 }
 {
     line.say(name);
-    line.number((n % 65536) as u32);
+    line.number(n as u64);
 }
 
 fn sizes(line: &mut Line, mask: u32, done: usize, coming: usize, cursor: usize) {
@@ -94,7 +94,7 @@ fn list(line: &mut Line, values: &[u32]) {
     for &value in values {
         line.room();
         line.say(b" ");
-        line.number(value);
+        line.number(value as u64);
     }
 }
 

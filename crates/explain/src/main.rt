@@ -100,24 +100,25 @@ fn tell_rows(
     let first = glyph::read(text, idx);
     rows::titles(line);
     rows::cursor(line, idx, first);
-    let mut due = 0;
+    let mut values = values.iter();
+    let mut due = values.next();
     for p in idx + 1..len {
-        if values.len() <= due {
+        let Some(&value) = due else {
             rows::rest(line, p, len);
             return;
-        }
-        match tell_place(line, searched, text, first, p, m, values[due]) {
+        };
+        match tell_place(line, searched, text, first, p, m, value) {
             Turn::Passed => {}
             // The next value is due once a glyph is taken.
-            Turn::Taken => due += 1,
+            Turn::Taken => due = values.next(),
             Turn::Stopped | Turn::Unlike => {
                 rows::rest(line, p + 1, len);
                 return;
             }
         }
     }
-    if due < values.len() {
-        rows::ran_out(line, values[due]);
+    if let Some(&value) = due {
+        rows::ran_out(line, value);
     }
 }
 
@@ -213,7 +214,7 @@ fn tell_line(out: Stdout, frame: &[u8], number: u64) -> Result<(), Lost> {
 
 // ---- the input
 
-// What is kept of the line at hand, and how many lines came before it.
+// What is kept of the line at hand, and how many lines came before it. Nothing compares or prints it.
 #[derive(Drop)]
 struct Lines {
     kept: KeptLine,

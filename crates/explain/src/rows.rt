@@ -39,8 +39,8 @@ fn class(line: &mut Line, props: u16) {
 
 // Place, id and class.
 fn opening(line: &mut Line, place: usize, g: Glyph) {
-    line.right(PLACE, (place % 65536) as u32);
-    line.right(ID, g.id);
+    line.right(PLACE, place as u64);
+    line.right(ID, g.id as u64);
     line.pad(CLASS);
     class(line, g.props);
 }
@@ -52,7 +52,7 @@ pub(crate) fn cursor(line: &mut Line, place: usize, g: Glyph) {
     line.end();
 }
 
-// Each of the two answers has a type of its own, and so has its words; one function for both would go by numbers.
+// Each of the two answers has a type of its own, and so has its words. No Display: a line takes bytes of which its contract knows how many they are.
 fn skip(line: &mut Line, s: MaySkip) {
     match s {
         MaySkip::No => line.say(b"No"),
@@ -72,14 +72,14 @@ fn may(line: &mut Line, m: MayMatch) {
 // Each part of a reason begins with a blank, so that it may begin a line too.
 fn outside(line: &mut Line, asked: u32) {
     line.reason(b" not in mark set ");
-    line.number(asked / 65536);
+    line.number((asked / 65536) as u64);
 }
 
 fn other_class(line: &mut Line, asked: u32, props: u16) {
     line.reason(b" class ");
-    line.number((props / 256) as u32);
+    line.number(props as u64 / 256);
     line.reason(b", asked ");
-    line.number(asked / 256 % 256);
+    line.number((asked / 256 % 256) as u64);
 }
 
 fn why_skip(line: &mut Line, why: SkipReason, asked: u32, props: u16) {
@@ -143,7 +143,7 @@ fn verdict(line: &mut Line, turn: Turn, seen: Seen, asked: u32, props: u16) {
 
 // What was asked of a glyph for a value, and what was answered.
 fn asked(line: &mut Line, due: u32, seen: Seen) {
-    line.right(DUE, due);
+    line.right(DUE, due as u64);
     line.pad(SKIP);
     skip(line, seen.skip);
     line.pad(MATCH);
@@ -169,9 +169,9 @@ pub(crate) fn tested(
 
 // Ligature id and component.
 fn of_ligature(line: &mut Line, g: Glyph) {
-    line.number(g.lig as u32);
+    line.number(g.lig as u64);
     line.say(b"/");
-    line.number(g.comp as u32);
+    line.number(g.comp as u64);
 }
 
 // The two glyphs that the ligature rule compares.
@@ -207,7 +207,7 @@ pub(crate) fn base(
 ) {
     line.pad(CLASS);
     line.say(b"base at place ");
-    line.number((place % 65536) as u32);
+    line.number(place as u64);
     line.say(b" of done: skip ");
     skip(line, s);
     line.say(b",");
@@ -217,7 +217,7 @@ pub(crate) fn base(
 
 pub(crate) fn ran_out(line: &mut Line, due: u32) {
     line.say(b"no glyph is left for the value ");
-    line.number(due);
+    line.number(due as u64);
     line.say(b": the walk ran out");
     line.end();
 }
@@ -227,7 +227,7 @@ pub(crate) fn rest(line: &mut Line, from: usize, len: usize) {
         return;
     }
     line.say(b"from place ");
-    line.number((from % 65536) as u32);
+    line.number(from as u64);
     line.say(b" on: not looked at");
     line.end();
 }

@@ -17,7 +17,8 @@ const REASON: usize = 55;
 // What a number or a position takes in a list, at most: a blank and ten digits.
 const ENTRY: usize = 11;
 
-// Where it is written, its bytes, the place up to which they stand, and whether a line could not be written.
+// Where it is written, its bytes, the place up to which they stand, and whether a line could not be written. That is kept and told at the end
+// (`is_lost`): with a Result of each call, forty functions that put words would hand on an error that none of them looks at.
 #[derive(Drop)]
 pub struct Line {
     out: Stdout,
@@ -109,9 +110,9 @@ impl Line {
         self.put(REASON, words);
     }
 
-    pub(crate) fn number(&mut self, n: u32) {
+    pub(crate) fn number(&mut self, n: u64) {
         let mut digits = [0u8; 20];
-        let k = io::decimal(n as u64, &mut digits);
+        let k = io::decimal(n, &mut digits);
         self.put(MARGIN, &digits[..k]);
     }
 
@@ -132,11 +133,11 @@ impl Line {
     }
 
     // A number whose last digit stands before a column, or further on where it has too many digits.
-    pub(crate) fn right(&mut self, column: usize, n: u32)
+    pub(crate) fn right(&mut self, column: usize, n: u64)
         requires { column ≤ 100 }
     {
         let mut digits = [0u8; 20];
-        let k = io::decimal(n as u64, &mut digits);
+        let k = io::decimal(n, &mut digits);
         self.pad(column.saturating_sub(k));
         self.put(MARGIN, &digits[..k]);
     }
