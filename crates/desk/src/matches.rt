@@ -5,10 +5,8 @@ ghost use Rattle.matching_calls.specs.Calls.{input_of, ahead_of, back_of};
 ghost use Rattle.verdict.specs.Numbers.{test_of};
 ghost use Rattle.desk.specs.Matches.{terms_for, matched_with, matched_of, placed_of};
 
-use crate::walks;
 use crate::walks::Lookup;
-use matching::{ContextMatch, InputMatch, NoContext, NoMatch, Success};
-use verdict::Test;
+use matching::{ContextMatch, InputMatch, NoContext, NoMatch, Success, Terms};
 
 // 0 with end, total, count and positions; 4 with the extent in `end`; or a refusal's number. Unused slots are 0.
 #[repr(C)]
@@ -45,15 +43,15 @@ pub extern "C" fn cb_match_input(
         (input_of done.now d coming.now len idx (terms_for lookup) sets.now (value_by (test_of test) [])
         values.now) }
 {
-    input_told(matching_calls::match_input(
+    Matched::from(matching_calls::match_input(
         done,
         d,
         coming,
         len,
         idx,
-        asked(lookup),
+        lookup.into(),
         sets,
-        Test::from(test),
+        test.into(),
         values,
     ))
 }
@@ -74,16 +72,16 @@ pub extern "C" fn cb_match_lookahead(
     ensures { result ≡ placed_of (ahead_of done.now d coming.now len idx start (terms_for lookup) sets.now
         (value_by (test_of test) []) values.now) }
 {
-    context_told(matching_calls::match_lookahead(
+    Placed::from(matching_calls::match_lookahead(
         done,
         d,
         coming,
         len,
         idx,
         start,
-        asked(lookup),
+        lookup.into(),
         sets,
-        Test::from(test),
+        test.into(),
         values,
     ))
 }
@@ -103,39 +101,45 @@ pub extern "C" fn cb_match_backtrack<'a>(
     ensures { result ≡ placed_of (back_of done.now d coming.now len idx (terms_for lookup) sets.now
         (value_by (test_of test) []) values.now) }
 {
-    context_told(matching_calls::match_backtrack(
+    Placed::from(matching_calls::match_backtrack(
         done,
         d,
         coming,
         len,
         idx,
-        asked(lookup),
+        lookup.into(),
         sets,
-        Test::from(test),
+        test.into(),
         values,
     ))
 }
 
-fn asked(l: Lookup) -> matching::Terms
-    ensures { result ≡ terms_for l }
-{
-    matching::Terms {
-        settings: walks::settings(l),
-        mask: l.mask,
-        props: l.props,
+// ---- C's structs from ours, and ours from C's
+
+impl From<Lookup> for Terms {
+    ghost from_gives = { λ lookup terms. terms ≡ terms_for lookup };
+
+    fn from(l: Lookup) -> Terms {
+        Terms {
+            settings: l.into(),
+            mask: l.mask,
+            props: l.props,
+        }
     }
 }
 
-fn input_told(m: InputMatch) -> Matched
-    ensures { result ≡ matched_of m }
-{
-    let count = m.count;
-    let positions = m.positions;
-    match m.answer {
-        Ok(Success { end, total }) => told(0, end, total, count, positions),
-        Err(NoMatch::Refused(why)) => told(u8::from(why), 0, 0, count, positions),
-        Err(NoMatch::Lost(extent)) => told(4, extent, 0, count, positions),
-        Err(NoMatch::Ligature) => told(5, 0, 0, count, positions),
+impl From<InputMatch> for Matched {
+    ghost from_gives = { λ input matched. matched ≡ matched_of input };
+
+    fn from(m: InputMatch) -> Matched {
+        let count = m.count;
+        let positions = m.positions;
+        match m.answer {
+            Ok(Success { end, total }) => told(0, end, total, count, positions),
+            Err(NoMatch::Refused(why)) => told(why.into(), 0, 0, count, positions),
+            Err(NoMatch::Lost(extent)) => told(4, extent, 0, count, positions),
+            Err(NoMatch::Ligature) => told(5, 0, 0, count, positions),
+        }
     }
 }
 
@@ -151,18 +155,20 @@ fn told(number: u8, end: usize, total: u16, count: usize, positions: [u16; 64]) 
     }
 }
 
-fn context_told(c: ContextMatch) -> Placed
-    ensures { result ≡ placed_of c }
-{
-    match c {
-        Ok(place) => Placed { number: 0, place },
-        Err(NoContext::Refused(why)) => Placed {
-            number: u8::from(why),
-            place: 0,
-        },
-        Err(NoContext::Lost(extent)) => Placed {
-            number: 4,
-            place: extent,
-        },
+impl From<ContextMatch> for Placed {
+    ghost from_gives = { λ context placed. placed ≡ placed_of context };
+
+    fn from(c: ContextMatch) -> Placed {
+        match c {
+            Ok(place) => Placed { number: 0, place },
+            Err(NoContext::Refused(why)) => Placed {
+                number: why.into(),
+                place: 0,
+            },
+            Err(NoContext::Lost(extent)) => Placed {
+                number: 4,
+                place: extent,
+            },
+        }
     }
 }

@@ -65,7 +65,7 @@ pub extern "C" fn cb_run(
       given = given_from switches;
     }) allowance depth done.new coming.new a × (result ≡ ran_of a)) }
 {
-    told(run_calls::run(
+    Ran::from(run_calls::run(
         done,
         coming,
         d,
@@ -73,57 +73,65 @@ pub extern "C" fn cb_run(
         sets,
         book,
         records,
-        match_from(matched),
-        given(switches),
+        matched.into(),
+        switches.into(),
         allowance,
         depth,
     ))
 }
 
-fn match_from(m: Matched) -> InputMatch
-    ensures { result ≡ match_from m }
-{
-    let positions = m.positions;
-    InputMatch {
-        answer: matching::answer_from(m.number, m.end, m.total),
-        count: m.count,
-        positions,
-    }
-}
+// ---- C's structs from ours, and ours from C's
 
-fn given(s: Switches) -> Given
-    ensures { result ≡ given_from s }
-{
-    Given {
-        zwnj: s.zwnj,
-        zwj: s.zwj,
-        syllables: s.syllables,
-        mask: s.mask,
-    }
-}
+impl From<Matched> for InputMatch {
+    ghost from_gives = { λ matched input. input ≡ match_from matched };
 
-fn told(answer: Result<RunAnswer, RunRefusal>) -> Ran
-    ensures { result ≡ ran_of answer }
-{
-    match answer {
-        Ok(a) => {
-            let positions = a.positions;
-            Ran {
-                number: run::number_of(Ok(a.ending)),
-                spent: a.spent,
-                d: a.d,
-                idx: a.idx,
-                count: a.count,
-                positions,
-            }
+    fn from(m: Matched) -> InputMatch {
+        let positions = m.positions;
+        InputMatch {
+            answer: matching::answer_from(m.number, m.end, m.total),
+            count: m.count,
+            positions,
         }
-        Err(why) => Ran {
-            number: run::number_of(Err(why)),
-            spent: 0,
-            d: 0,
-            idx: 0,
-            count: 0,
-            positions: [0; 64],
-        },
+    }
+}
+
+impl From<Switches> for Given {
+    ghost from_gives = { λ switches given. given ≡ given_from switches };
+
+    fn from(s: Switches) -> Given {
+        Given {
+            zwnj: s.zwnj,
+            zwj: s.zwj,
+            syllables: s.syllables,
+            mask: s.mask,
+        }
+    }
+}
+
+impl From<Result<RunAnswer, RunRefusal>> for Ran {
+    ghost from_gives = { λ answer ran. ran ≡ ran_of answer };
+
+    fn from(answer: Result<RunAnswer, RunRefusal>) -> Ran {
+        match answer {
+            Ok(a) => {
+                let positions = a.positions;
+                Ran {
+                    number: run::number_of(Ok(a.ending)),
+                    spent: a.spent,
+                    d: a.d,
+                    idx: a.idx,
+                    count: a.count,
+                    positions,
+                }
+            }
+            Err(why) => Ran {
+                number: run::number_of(Err(why)),
+                spent: 0,
+                d: 0,
+                idx: 0,
+                count: 0,
+                positions: [0; 64],
+            },
+        }
     }
 }

@@ -6,7 +6,7 @@ ghost use Rattle.walk.specs.Calls.{forward_of, backward_of};
 ghost use Rattle.desk.specs.Walks.{settings_for, matcher_for, sign_of, said_of, step_of};
 
 use glyph::IllShaped;
-use verdict::{Matcher, Settings, Sign, Table, Test};
+use verdict::{Matcher, Settings, Sign};
 use walk::Walked;
 
 // A lookup's table and settings, its mask and its props.
@@ -58,7 +58,7 @@ pub extern "C" fn cb_may_skip(
     ensures { result ≡ said_of (skip_reply (ask_skip row.now place (matcher_for lookup context) sets.now)) }
 {
     let answer = verdict_ask::ask_skip(row, place, matcher(lookup, context), sets);
-    told(answer.map(|s| s as u8))
+    Said::from(answer.map(|s| s as u8))
 }
 
 #[unsafe(no_mangle)]
@@ -76,10 +76,10 @@ pub extern "C" fn cb_may_match(
         row,
         place,
         matcher(lookup, context),
-        sign(sought),
+        sought.into(),
         sought.syllable,
     );
-    told(answer.map(|m| m as u8))
+    Said::from(answer.map(|m| m as u8))
 }
 
 #[unsafe(no_mangle)]
@@ -98,11 +98,11 @@ pub extern "C" fn cb_verdict(
         row,
         place,
         matcher(lookup, context),
-        sign(sought),
+        sought.into(),
         sought.syllable,
         sets,
     );
-    told(answer.map(|v| v as u8))
+    Said::from(answer.map(|v| v as u8))
 }
 
 #[unsafe(no_mangle)]
@@ -118,12 +118,12 @@ pub extern "C" fn cb_forward(
     ensures { result ≡ step_of (forward_of row.now len place (matcher_for lookup context) (value_of (sign_of sought) []) sought.syllable
         sets.now) }
 {
-    stepped(walk::forward(
+    Step::from(walk::forward(
         row,
         len,
         place,
         matcher(lookup, context),
-        sign(sought),
+        sought.into(),
         sought.syllable,
         sets,
     ))
@@ -141,11 +141,11 @@ pub extern "C" fn cb_backward(
     ensures { result ≡ step_of (backward_of row.now place (matcher_for lookup context) (value_of (sign_of sought) []) sought.syllable
         sets.now) }
 {
-    stepped(walk::backward(
+    Step::from(walk::backward(
         row,
         place,
         matcher(lookup, context),
-        sign(sought),
+        sought.into(),
         sought.syllable,
         sets,
     ))
@@ -154,62 +154,72 @@ pub extern "C" fn cb_backward(
 fn matcher(l: Lookup, context: bool) -> Matcher
     ensures { result ≡ matcher_for l context }
 {
-    verdict::matcher_of(settings(l), context, l.mask, l.props)
+    verdict::matcher_of(l.into(), context, l.mask, l.props)
 }
 
-pub fn settings(l: Lookup) -> Settings
-    ensures { result ≡ settings_for l }
-{
-    Settings {
-        table: Table::from(l.gpos),
-        zwnj: l.zwnj,
-        zwj: l.zwj,
-        syllables: l.syllables,
+// ---- C's structs from ours, and ours from C's
+
+impl From<Lookup> for Settings {
+    ghost from_gives = { λ lookup settings. settings ≡ settings_for lookup };
+
+    fn from(l: Lookup) -> Settings {
+        Settings {
+            table: l.gpos.into(),
+            zwnj: l.zwnj,
+            zwj: l.zwj,
+            syllables: l.syllables,
+        }
     }
 }
 
-fn sign(s: Sought) -> Sign
-    ensures { result ≡ sign_of s }
-{
-    Sign {
-        test: Test::from(s.test),
-        value: s.value,
+impl From<Sought> for Sign {
+    ghost from_gives = { λ sought sign. sign ≡ sign_of sought };
+
+    fn from(s: Sought) -> Sign {
+        Sign {
+            test: s.test.into(),
+            value: s.value,
+        }
     }
 }
 
 // A question's answer, as its place in its list.
-fn told(a: Result<u8, IllShaped>) -> Said
-    ensures { MatchResult a (λ s. result ≡ record { number = 0; said = s }) (λ _. result ≡ record { number = 1; said = 0 }) }
-{
-    match a {
-        Ok(said) => Said { number: 0, said },
-        Err(IllShaped) => Said { number: 1, said: 0 },
+impl From<Result<u8, IllShaped>> for Said {
+    ghost from_gives = { λ a told. MatchResult a (λ s. told ≡ record { number = 0; said = s }) (λ _. told ≡ record { number = 1; said = 0 }) };
+
+    fn from(a: Result<u8, IllShaped>) -> Said {
+        match a {
+            Ok(said) => Said { number: 0, said },
+            Err(IllShaped) => Said { number: 1, said: 0 },
+        }
     }
 }
 
-fn stepped(w: Result<Walked, IllShaped>) -> Step
-    ensures { result ≡ step_of w }
-{
-    match w {
-        Ok(Walked::Found(p)) => Step {
-            number: 0,
-            ranout: false,
-            place: p,
-        },
-        Ok(Walked::Stopped(e)) => Step {
-            number: 4,
-            ranout: false,
-            place: e,
-        },
-        Ok(Walked::RanOut(e)) => Step {
-            number: 4,
-            ranout: true,
-            place: e,
-        },
-        Err(IllShaped) => Step {
-            number: 1,
-            ranout: false,
-            place: 0,
-        },
+impl From<Result<Walked, IllShaped>> for Step {
+    ghost from_gives = { λ walked step. step ≡ step_of walked };
+
+    fn from(w: Result<Walked, IllShaped>) -> Step {
+        match w {
+            Ok(Walked::Found(p)) => Step {
+                number: 0,
+                ranout: false,
+                place: p,
+            },
+            Ok(Walked::Stopped(e)) => Step {
+                number: 4,
+                ranout: false,
+                place: e,
+            },
+            Ok(Walked::RanOut(e)) => Step {
+                number: 4,
+                ranout: true,
+                place: e,
+            },
+            Err(IllShaped) => Step {
+                number: 1,
+                ranout: false,
+                place: 0,
+            },
+        }
     }
 }
