@@ -3,7 +3,7 @@ ghost use Rattle.std.specs.Prelude.{◌≡◌, []};
 ghost use Rattle.verdict.specs.Verdict.{value_by};
 ghost use Rattle.matching_calls.specs.Calls.{input_of, ahead_of, back_of};
 ghost use Rattle.verdict.specs.Numbers.{test_of};
-ghost use Rattle.desk.specs.Matches.{terms_for, matched_with, matched_of, placed_of};
+ghost use Rattle.desk.specs.Matches.{terms_for, matched_of, placed_of};
 
 use crate::walks::Lookup;
 use matching::{ContextMatch, InputMatch, NoContext, NoMatch, Success, Terms};
@@ -132,26 +132,20 @@ impl From<InputMatch> for Matched {
     ghost from_gives = { λ input matched. matched ≡ matched_of input };
 
     fn from(m: InputMatch) -> Matched {
-        let count = m.count;
         let positions = m.positions;
-        match m.answer {
-            Ok(Success { end, total }) => told(0, end, total, count, positions),
-            Err(NoMatch::Refused(why)) => told(why.into(), 0, 0, count, positions),
-            Err(NoMatch::Lost(extent)) => told(4, extent, 0, count, positions),
-            Err(NoMatch::Ligature) => told(5, 0, 0, count, positions),
+        let (number, end, total) = match m.answer {
+            Ok(Success { end, total }) => (0, end, total),
+            Err(NoMatch::Refused(why)) => (u8::from(why), 0, 0),
+            Err(NoMatch::Lost(extent)) => (4, extent, 0),
+            Err(NoMatch::Ligature) => (5, 0, 0),
+        };
+        Matched {
+            number,
+            total,
+            end,
+            count: m.count,
+            positions,
         }
-    }
-}
-
-fn told(number: u8, end: usize, total: u16, count: usize, positions: [u16; 64]) -> Matched
-    ensures { result ≡ matched_with number end total count positions }
-{
-    Matched {
-        number,
-        total,
-        end,
-        count,
-        positions,
     }
 }
 
