@@ -9,9 +9,10 @@
 use matching::{ContextMatch, InputAnswer, InputMatch, NoContext, NoMatch, Success, Terms};
 use matching_calls::{match_backtrack, match_input, match_lookahead};
 use std::io;
-use stored::{Replayed, after, list, listed, more, size, slots_are, word};
+use stored::{Replayed, add_one, after, list, listed, more, size, slots_are, word};
 use verdict::Test;
 
+// Nothing compares it, and it is printed a count at a time.
 #[derive(Clone, Copy, Default)]
 struct Tally {
     input: u64,
@@ -38,7 +39,7 @@ enum Origin {
     Difference,
 }
 
-// Both are of a line's number: its hundreds say the origin, and what is left of it the operation.
+// Both are read off a line's number: its hundreds say the origin, and what is left of it the operation.
 impl From<u32> for Operation {
     fn from(number: u32) -> Operation {
         match number % 100 {
@@ -84,16 +85,16 @@ impl Tally {
     fn count(&mut self, operation: Operation, origin: Origin, right: bool) {
         match origin {
             Origin::Original => self.count_original(operation),
-            Origin::Difference => self.differences = more(self.differences, true),
+            Origin::Difference => add_one(&mut self.differences),
         }
         self.wrong = more(self.wrong, !right);
     }
 
     fn count_original(&mut self, operation: Operation) {
         match operation {
-            Operation::Input => self.input = more(self.input, true),
-            Operation::Lookahead => self.lookahead = more(self.lookahead, true),
-            Operation::Backtrack => self.backtrack = more(self.backtrack, true),
+            Operation::Input => add_one(&mut self.input),
+            Operation::Lookahead => add_one(&mut self.lookahead),
+            Operation::Backtrack => add_one(&mut self.backtrack),
             Operation::Unknown => {}
         }
     }
@@ -198,5 +199,5 @@ fn answer_is(words: &[u32], answer: InputAnswer, at: usize) -> bool {
 }
 
 fn total_is(stored: u32, total: u16) -> bool {
-    stored == 4294967295 || stored == total as u32
+    stored == u32::MAX || stored == total as u32
 }

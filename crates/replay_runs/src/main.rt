@@ -12,13 +12,14 @@ use matching::{InputAnswer, InputMatch, NoMatch, Refusal, Success};
 use run::{Ending, Given, RunRefusal};
 use run_calls::RunAnswer;
 use std::io;
-use stored::{Replayed, Span, after, list, listed, more, size, slots_are, word};
+use stored::{Replayed, Span, add_one, after, list, listed, more, size, slots_are, word};
 
 // The words of a run's row, and room for one that has a glyph more.
 const ROW: usize = glyph::WORDS * glyph::LIMIT;
 
 const ROOM: usize = ROW + glyph::WORDS;
 
+// Nothing compares it, and it is printed a count at a time.
 #[derive(Clone, Copy, Default)]
 struct Tally {
     finished: u64,
@@ -32,6 +33,7 @@ struct Tally {
     wrong: u64,
 }
 
+// Nothing compares it, and it is printed a count at a time.
 #[derive(Clone, Copy, Default)]
 struct Refusals {
     by_1: u64,
@@ -57,14 +59,14 @@ impl From<u32> for Operation {
     }
 }
 
-// A line that was replayed, and how the run ended, or what it was refused for.
+// A line that was replayed, and how the run ended, or what it was refused for. Nothing compares or prints it.
 #[derive(Clone, Copy)]
 struct Answered {
     line: Replayed,
     ended: Result<Ending, RunRefusal>,
 }
 
-// What a line says of the rows, how the match was answered, and where the line goes on as one of 50.
+// What a line says of the rows, how the match was answered, and where the line goes on as one of 50. Nothing compares or prints it.
 #[derive(Clone, Copy)]
 struct Opening {
     d: usize,
@@ -76,7 +78,7 @@ struct Opening {
     at: usize,
 }
 
-// The lists that a line asks with.
+// The lists that a line asks with. Nothing compares or prints it.
 #[derive(Clone, Copy)]
 struct Lists {
     positions: Span,
@@ -126,10 +128,10 @@ impl Tally {
     // One line more: its operation, what the other cells held, and what we answered.
     fn count(&mut self, operation: Operation, filler: u32, answered: Answered) {
         match answered.ended {
-            Ok(Ending::Finished) => self.finished = more(self.finished, true),
-            Ok(Ending::Short) => self.short = more(self.short, true),
-            Ok(Ending::Deep) => self.deep = more(self.deep, true),
-            Ok(Ending::Full) => self.full = more(self.full, true),
+            Ok(Ending::Finished) => add_one(&mut self.finished),
+            Ok(Ending::Short) => add_one(&mut self.short),
+            Ok(Ending::Deep) => add_one(&mut self.deep),
+            Ok(Ending::Full) => add_one(&mut self.full),
             Err(why) => self.refused.count(why),
         }
         self.filled = more(self.filled, filler != 0);
@@ -141,11 +143,11 @@ impl Tally {
 impl Refusals {
     fn count(&mut self, why: RunRefusal) {
         match why {
-            RunRefusal::Shape => self.by_1 = more(self.by_1, true),
-            RunRefusal::Cursor => self.by_2 = more(self.by_2, true),
-            RunRefusal::Limits => self.by_12 = more(self.by_12, true),
-            RunRefusal::Book => self.by_11 = more(self.by_11, true),
-            RunRefusal::Match => self.by_7 = more(self.by_7, true),
+            RunRefusal::Shape => add_one(&mut self.by_1),
+            RunRefusal::Cursor => add_one(&mut self.by_2),
+            RunRefusal::Limits => add_one(&mut self.by_12),
+            RunRefusal::Book => add_one(&mut self.by_11),
+            RunRefusal::Match => add_one(&mut self.by_7),
         }
     }
 }
@@ -242,8 +244,8 @@ fn asked(
         words,
         opening,
         lists,
-        &mut done[0..done_len],
-        &mut coming[0..coming_len],
+        &mut done[..done_len],
+        &mut coming[..coming_len],
         sets,
         book,
         records,
@@ -382,8 +384,8 @@ fn holds(row: &[u32], from: usize, words: &[u32], filler: u32) -> bool {
 }
 
 fn cell(words: &[u32], from: usize, k: usize, filler: u32) -> u32 {
-    match k.checked_sub(from).and_then(|i| words.get(i)) {
-        Some(&word) => word,
-        None => filler,
-    }
+    k.checked_sub(from)
+        .and_then(|i| words.get(i))
+        .copied()
+        .unwrap_or(filler)
 }

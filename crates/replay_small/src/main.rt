@@ -7,8 +7,9 @@ use allowance::{Budget, Charged};
 use digest::SetDigest;
 use rule_digest::RuleSetDigest;
 use std::io;
-use stored::{Replayed, after, more, number, part, word};
+use stored::{Replayed, add_one, after, more, number, part, word};
 
+// Nothing compares it, and it is printed a count at a time.
 #[derive(Clone, Copy, Default)]
 struct Tally {
     sets: u64,
@@ -102,9 +103,9 @@ impl Tally {
     // One line more.
     fn count(&mut self, operation: Operation, right: bool) {
         match operation {
-            Operation::Set(_) => self.sets = more(self.sets, true),
-            Operation::Rule(_) => self.rules = more(self.rules, true),
-            Operation::Allowance(_) => self.allowances = more(self.allowances, true),
+            Operation::Set(_) => add_one(&mut self.sets),
+            Operation::Rule(_) => add_one(&mut self.rules),
+            Operation::Allowance(_) => add_one(&mut self.allowances),
         }
         self.wrong = more(self.wrong, !right);
     }

@@ -8,10 +8,11 @@
 
 use glyph::IllShaped;
 use std::io;
-use stored::{Replayed, after, list, listed, more, size, word};
+use stored::{Replayed, add_one, after, list, listed, more, size, word};
 use verdict::{Matcher, Sign, Test};
 use walk::Walked;
 
+// Nothing compares it, and it is printed a count at a time.
 #[derive(Clone, Copy, Default)]
 struct Tally {
     differences: u64,
@@ -44,7 +45,7 @@ enum Origin {
     Refusal,
 }
 
-// Both are of a line's number: its hundreds say the origin, and what is left of it the operation.
+// Both are read off a line's number: its hundreds say the origin, and what is left of it the operation.
 impl From<u32> for Operation {
     fn from(number: u32) -> Operation {
         match number % 100 {
@@ -68,7 +69,7 @@ impl From<u32> for Origin {
     }
 }
 
-// What a line asks beside its rows.
+// What a line asks beside its rows. Nothing compares or prints it.
 #[derive(Clone, Copy)]
 struct Question {
     operation: Operation,
@@ -111,19 +112,19 @@ impl Tally {
     fn count(&mut self, operation: Operation, origin: Origin, right: bool) {
         match origin {
             Origin::Original => self.count_original(operation),
-            Origin::Difference => self.differences = more(self.differences, true),
-            Origin::Refusal => self.refused = more(self.refused, true),
+            Origin::Difference => add_one(&mut self.differences),
+            Origin::Refusal => add_one(&mut self.refused),
         }
         self.wrong = more(self.wrong, !right);
     }
 
     fn count_original(&mut self, operation: Operation) {
         match operation {
-            Operation::MaySkip => self.skips = more(self.skips, true),
-            Operation::Verdict => self.verdicts = more(self.verdicts, true),
-            Operation::Forward => self.forward = more(self.forward, true),
-            Operation::Backward => self.backward = more(self.backward, true),
-            Operation::MayMatch => self.matches = more(self.matches, true),
+            Operation::MaySkip => add_one(&mut self.skips),
+            Operation::Verdict => add_one(&mut self.verdicts),
+            Operation::Forward => add_one(&mut self.forward),
+            Operation::Backward => add_one(&mut self.backward),
+            Operation::MayMatch => add_one(&mut self.matches),
             Operation::Unknown => {}
         }
     }

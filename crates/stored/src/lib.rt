@@ -77,8 +77,8 @@ pub fn decode(text: &[u8], words: &mut [u32]) -> usize
         × ((k : ℕ) → slice_index words.new k ≡ (if nat_lt k result then stored_word text.now k else slice_index words.old k)) }
 {
     let n = words.len().min(text.len() / 9);
-    for k in 0..n {
-        words[k] = eight(text, k * 9);
+    for (k, word) in words[..n].iter_mut().enumerate() {
+        *word = eight(text, k * 9);
     }
     n
 }
@@ -87,7 +87,7 @@ pub fn decode(text: &[u8], words: &mut [u32]) -> usize
 pub fn word(words: &[u32], k: usize) -> u32
     ensures { result ≡ slice_index words.now k }
 {
-    if k < words.len() { words[k] } else { 0 }
+    words.get(k).copied().unwrap_or(0)
 }
 
 // The number of 64 bits in words k and k + 1, the high one first.
@@ -105,13 +105,17 @@ pub fn number(words: &[u32], k: usize) -> u64
 pub fn part(words: &[u32], from: usize, to: usize) -> &[u32]
     ensures { result.now ≡ part_between from to words.now }
 {
-    if words.len() < to || to < from {
-        return &[];
-    }
-    &words[from..to]
+    words.get(from..to).unwrap_or(&[])
 }
 
-// A count with one more, where it is so. It wraps nowhere that a list of this size reaches, nor does a place.
+// A count with one more. It wraps nowhere that a list of this size reaches, nor does a place.
+pub fn add_one(n: &mut u64)
+    ensures { n.new ≡ (n.old + 1) % 2 ^ 64 }
+{
+    *n = n.wrapping_add(1);
+}
+
+// A count with one more, where it is so.
 pub fn more(n: u64, so: bool) -> u64
     ensures { result ≡ (if so then (n + 1) % 2 ^ 64 else n) }
 {
@@ -164,12 +168,8 @@ pub fn settings_at(words: &[u32], k: usize) -> Settings
 pub fn slots_are(words: &[u32], positions: &[u16; 64], from: usize, count: usize) -> bool
     ensures { result ≡ every 64 (slot_is words.now positions.now from count) }
 {
-    for k in 0..64 {
-        if wanted(words, from, k, count) != positions[k] as u32 {
-            return false;
-        }
-    }
-    true
+    positions.iter().enumerate().all(|(k, &position)| wanted(words, from, k, count)
+        == position as u32)
 }
 
 fn wanted(words: &[u32], from: usize, k: usize, count: usize) -> u32
@@ -189,8 +189,9 @@ pub fn narrow(words: &[u32], out: &mut [u16]) -> usize
     ensures by_index { (k : ℕ) → slice_index out.new k ≡ (if nat_lt k result then slice_index words.now k % 65536 else slice_index out.old k) }
 {
     let n = words.len().min(out.len());
-    for k in 0..n {
-        out[k] = (words[k] % 65536) as u16;
+    // `out` by index: nothing is proved of what a `zip` over `iter_mut` leaves.
+    for (k, &word) in words[..n].iter().enumerate() {
+        out[k] = (word % 65536) as u16;
     }
     n
 }
@@ -215,11 +216,9 @@ fn byte(text: &[u8], i: usize) -> u32
 fn hex(b: u8) -> u32
     ensures { (result ≡ hex_digit b) × (result < 16) }
 {
-    if (48 <= b) & (b <= 57) {
-        return (b - 48) as u32;
+    match b {
+        b'0'..=b'9' => (b - b'0') as u32,
+        b'A'..=b'F' => (b - b'A') as u32 + 10,
+        _ => 0,
     }
-    if (65 <= b) & (b <= 70) {
-        return (b - 55) as u32;
-    }
-    0
 }

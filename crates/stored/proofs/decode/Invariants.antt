@@ -4,5 +4,5 @@ use Rattle.stored.specs.Stored.{stored_word}
 use Rattle.stored.proofs.decode.Given as goal
 
 abbrev pub invariant-loop-k : goal.invariant-loop-k
-invariant-loop-k l = (length l.words ≡ length l.initial.words)
-    × ((j : ℕ) → get_or l.words j 0 ≡ cond (ltb j l.k) (stored_word l.text j) (get_or l.initial.words j 0))
+invariant-loop-k l = (length l.word-items ≡ length l.initial.word-items)
+    × ((j : ℕ) → get_or l.word-items j 0 ≡ cond (ltb j l.k) (stored_word l.text j) (get_or l.initial.word-items j 0))

@@ -1,20 +1,14 @@
--- A turn asks of one slot more; all before it hold what is stored. Assumes nothing.
-use Rattle.std.proofs.Common.{true, sym, refl, ◌∙◌, arith, eq-eqb, ne_eqb}
-use Rattle.bits.proofs.Laws.{every_none, every_more, every_not}
-use Rattle.stored.specs.Stored.{slot_is}
+-- The closure is asked of each position with its number. Assumes nothing.
+use Rattle.std.proofs.Common.{◌≡◌, ℕ, ◌+◌, ◌%◌, ◌^◌, Bool, true, false, cond, ltb, get_or, rules, tests, ◌==◌}
+use Rattle.std.proofs.lemmas.Iterator.{cases_from_all, YieldsList-from_slice}
+use Rattle.std.proofs.lemmas.Iterator.Consumers.{YieldsList-from_enumerate}
+use Rattle.stored.proofs.Numbered.{every_numbered}
 use Rattle.stored.proofs.slots_are.Goals as goal
 
-pub loop-k-init : goal.loop-k-init
-loop-k-init c = every_none _
-
-pub returns-then-wanted-positions : goal.returns-then-wanted-positions
-returns-then-wanted-positions c = let l = c.loop-k in
+pub returns : goal.returns
+returns c =
     let a = c.args in
-    sym (every_not (slot_is a.words.now a.positions.now a.from a.count) 64 l.k (omega arith)
-    (ne_eqb _ _ (λ e. c.if-wanted-positions.true (c.wanted.ensures ∙ e))))
-
-pub loop-k-preserved : goal.loop-k-preserved
-loop-k-preserved c = let l = c.loop-k in
-    let a = c.args in
-    let same = sym c.wanted.ensures ∙ c.if-wanted-positions.false in
-    every_more (slot_is a.words.now a.positions.now a.from a.count) l.k true l.invariant (sym (eq-eqb _ _ same)) refl
+    let passes : ℕ → ℕ → Bool = λ k v. cond (ltb k a.count) (get_or a.words.now ((a.from + k) % 2 ^ 64) 0) 0 == v in
+    every_numbered passes a.positions.now 64 c.told-positions c.all.result
+    (cases_from_all _ _ _ (λ x. passes x.0 x.1 ≡ true) (λ x. passes x.0 x.1 ≡ false) c.all.ensures.ran
+    (YieldsList-from_enumerate (YieldsList-from_slice a.positions.now cc) cc) (λ x q k. search (rules, tests)) (λ x q k. search (rules, tests)))
