@@ -59,12 +59,14 @@ def functions(text):
 
 
 def conjuncts(clause):
-    """The facts of a clause."""
+    """The facts of a clause, without brackets round the whole and without the words for before and after."""
     depth, start = 0, 0
     for at, sign in enumerate(clause + "×"):
         depth += {"(": 1, ")": -1, "{": 1, "}": -1}.get(sign, 0)
         if sign == "×" and depth == 0 or at == len(clause):
-            yield re.sub(r"\s+", " ", clause[start:at].strip())
+            fact = re.sub(r"\s+", " ", clause[start:at].strip())
+            fact = re.sub(r"\.(old|now|new|entry)\b", "", fact)
+            yield fact[1:-1] if re.fullmatch(r"\([^()]*\)", fact) else fact
             start = at + 1
 
 
