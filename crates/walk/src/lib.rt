@@ -109,7 +109,8 @@ pub fn back_extent(p: usize) -> usize
     p.saturating_sub(1)
 }
 
-// The backward walk: the next place to test is the one before `place`. It stands where it is called, as the forward walk does.
+// The backward walk: the next place to test is the one before `place`. A glyph that isn't skip Yes is read anew, so that the compiler loads only the
+// props of one that is. It stands where it is called, as the forward walk does.
 #[inline(always)]
 #[tactic(auto, using(crate::proofs::Turns::turns_back))]
 pub fn backward_from(
@@ -125,10 +126,12 @@ pub fn backward_from(
     ensures { result ≡ walk_back (judge_at m (value_of sign lists.now) syllable sets.now (glyphs_of row.now)) place }
 {
     for p in (0..place).rev() {
-        match verdict_match::judge(m, sign, lists, syllable, sets, glyph::read(row, p)) {
-            Verdict::Match => return Walked::Found(p),
-            Verdict::NotMatch => return Walked::Stopped(back_extent(p)),
-            Verdict::Skip => {}
+        if !verdict_skip::is_skip_yes(m, sets, glyph::read(row, p)) {
+            match verdict_match::on_rest(m, sign, lists, syllable, glyph::read(row, p)) {
+                Verdict::Match => return Walked::Found(p),
+                Verdict::NotMatch => return Walked::Stopped(back_extent(p)),
+                Verdict::Skip => {}
+            }
         }
     }
     Walked::RanOut(0)
