@@ -913,6 +913,7 @@ TABLE = {
         "the_extent_is_lost": (call("desk_input", row([5]), [7]), "4, end 1, total 0, 0 at []", "4, end 0, total 0, 0 at []"),
     },
     "stored": {
+        "a_count_goes_up_by_two": (said("{ let mut n = 0; stored::add_one(&mut n); n }"), "1", "2"),
         "a_is_eleven": (call("decoded", b"0000000A "), "[10]", "[11]"),
         "the_first_line_stands_at_one": (call("replayed", [2, 1, 1]), "[0, 2]", "[1, 2]"),
         "the_same_line_is_replayed_again": (call("replayed", [2, 1, 1]), "[0, 2]", "[0, 0, 0]"),
