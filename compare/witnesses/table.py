@@ -497,7 +497,9 @@ TABLE = {
     "matching": {
         "a_cursor_past_the_end_is_refused_by_1": (tape(frame([5], cursor=1)), "02", "01"),
         "a_refused_context_is_lost": (match_lookahead([5], 1, length=1, cursor=1), "Err(Refused(Cursor))", "Err(Lost(2))"),
+        "every_context_is_refused_by_1": (match_lookahead([5], 1, length=1, cursor=1), "Err(Refused(Cursor))", "Err(Refused(Shape))"),
         "a_refused_input_is_lost": (match_input([5], length=1, cursor=1), "Err(Refused(Cursor)), 0 at []", "Err(Lost(2)), 0 at []"),
+        "a_refused_input_is_the_ligature_rule": (match_input([5], length=1, cursor=1), "Err(Refused(Cursor)), 0 at []", "Err(Ligature), 0 at []"),
         "every_match_has_one_reply": (match_input([5, 7]), K1_ANSWER, "Err(Lost(1)), 0 at [] and an unused slot filled"),
         "number_4_is_taken_for_a_success": (
             desk_k11(number=4), "7, spent 0, d 0, idx 0, 0 at []", f"0, spent 1, d 4, idx {LIMIT}, 4 at [0, 1, 2, 3]",
@@ -851,8 +853,12 @@ TABLE = {
         "a_CR_ends_a_line": (tape(T1), "00000200020200000001", "FF"),
         "a_line_that_is_no_frame_answers_00": (tape(""), "FF", "00"),
         "a_line_begins_with_a_byte": (tape(T1), "00000200020200000001", "FF"),
+        "a_line_begins_full": (tape(T1), "00000200020200000001", "FF"),
         "a_line_keeps_a_byte_of_the_last": (tape(T1 + "\n" + T1), "00000200020200000001 00000200020200000001", "00000200020200000001 FF FF"),
+        "half_a_line_is_kept": (tape(T1 + "\n" + T1), "00000200020200000001 00000200020200000001", "00000200020200000001 FF FF"),
+        "every_byte_is_kept_at_the_front": (tape(T1), "00000200020200000001", "FF"),
         "more_than_the_line_is_handed_on": (tape(T1), "00000200020200000001", "FF FF"),
+        "nothing_of_a_line_is_handed_on": (tape(T1), "00000200020200000001", "FF"),
         "the_byte_after_the_longest_frame_is_forgotten": (tape(LONGEST + "0"), "FF", "03"),
         "feed_stops_though_an_answer_has_room": (call("feed", b"\n", "tape_answer::MOST_ANSWER"), 'place 1, "FF\\n"', 'place 0, ""'),
     },
@@ -914,6 +920,9 @@ TABLE = {
     },
     "stored": {
         "a_count_goes_up_by_two": (said("{ let mut n = 0; stored::add_one(&mut n); n }"), "1", "2"),
+        "a_count_stays": (said("{ let mut n = 0; stored::add_one(&mut n); n }"), "1", "0"),
+        "a_word_is_one_before_it_is_read": (said("stored::word_room()[0]"), "0", "1"),
+        "the_last_word_is_one": (said("stored::word_room()[stored::WORDS_OF_A_LIST - 1]"), "0", "1"),
         "a_is_eleven": (call("decoded", b"0000000A "), "[10]", "[11]"),
         "the_first_line_stands_at_one": (call("replayed", [2, 1, 1]), "[0, 2]", "[1, 2]"),
         "the_same_line_is_replayed_again": (call("replayed", [2, 1, 1]), "[0, 2]", "[0, 0, 0]"),

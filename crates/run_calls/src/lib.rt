@@ -31,7 +31,7 @@ pub struct RunAnswer {
 }
 
 // A run of records over a text: `done` holds its first d glyphs, `coming` ends with the others, from glyph idx on. The match handed in counts places
-// in `coming`. What is handed in comes one by one, in 01\'s order, as C has it.
+// in `coming`. What is handed in comes one by one, in 01's order, as C has it.
 #[tactic(auto, using(crate::specs::CallLaws::index_is, crate::specs::CallLaws::index_none), unfolding(crate::specs::Calls::checked_all))]
 pub fn run(
     done: &mut [u32],

@@ -6,7 +6,7 @@ ghost use Rattle.std.specs.Prelude.{◌≡◌, ⊤, ℕ, ◌+◌, ◌*◌, ◌/�
 ghost use Rattle.io.specs.Counts.{IsPrefixLen};
 ghost use Rattle.stored.specs.Stored.{hex_digit, byte_at, word_from, stored_word, number_at, part_between, span_from, settings_from, slot_is};
 ghost use Rattle.stored.specs.Replay.{ReplayedTo};
-ghost use Rattle.bits.specs.Bits.{every};
+ghost use Rattle.bits.specs.Bits.{every, zeros};
 
 use verdict::{Settings, Table};
 
@@ -42,7 +42,9 @@ fn text_room() -> [u8; TEXT] {
     [0; TEXT]
 }
 
-pub fn word_room() -> [u32; WORDS_OF_A_LIST] {
+pub fn word_room() -> [u32; WORDS_OF_A_LIST]
+    ensures { result ≡ zeros (length result) }
+{
     [0; WORDS_OF_A_LIST]
 }
 
