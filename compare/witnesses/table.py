@@ -244,6 +244,14 @@ def run(
     return call(how, rows, d, idx, sets, book, words, m, given, allowance, depth)
 
 
+def aims_without_entry(coming):
+    """Whether a lookup that the book doesn't have is a chain at the first glyph of a text."""
+    rows = f"&begins(&[], row_words()), &{call('ends', row(coming), 'row_words()')}"
+    place = f"text::Place {{ d: 0, idx: {LIMIT - len(coming)} }}"
+    given = "run::Given { zwnj: false, zwj: false, syllables: false, mask: 1 }"
+    return said(f"run_chain_match::take_aim({rows}, &[], &[], None, {place}, {given}).is_some()")
+
+
 def one_glyph(records=(), book=(), **other):
     return run([5], book, records, **other)
 
@@ -613,6 +621,7 @@ TABLE = {
             f"Finished, spent 2, d 1, idx {LIMIT}, 1 at [0], text 7",
             f"Finished, spent 1, d 1, idx {LIMIT}, 1 at [0], text 5",
         ),
+        "a_lookup_that_isnt_there_is_a_chain": (said("book::is_chain(None)"), "false", "true"),
         "a_word_over_reads": (call("lookups", [3, 0, 0, 6, 5, 0, 0, 0, 0, 9]), "doesn't read", "props 0, a chain on 5, records []"),
         "kind_4_reads": (call("lookups", [4, 0, 0, 5, 5, 0, 0, 0, 0]), "doesn't read", "props 0, a chain on 5, records []"),
         "nine_ids_read": (
@@ -701,6 +710,20 @@ TABLE = {
             f"Finished, spent 1, d 2, idx {LIMIT}, 2 at [0, 1], text 9 6",
             f"Finished, spent 2, d 2, idx {LIMIT}, 2 at [0, 1], text 8 6",
         ),
+        "a_chain_takes_any_glyph_for_its_lookahead": (
+            run(
+                [5, 6],
+                chain(5, lookahead=[7], records=[(0, 1)]) + lookup(KIND_1, 5, 8),
+                [(0, 0)],
+                places=[LIMIT - 2],
+                end=LIMIT - 1,
+                allowance=2,
+                depth=2,
+            ),
+            f"Finished, spent 1, d 1, idx {LIMIT - 1}, 1 at [0], text 5 6",
+            f"Finished, spent 2, d 1, idx {LIMIT - 1}, 1 at [0], text 8 6",
+        ),
+        "a_lookup_that_isnt_there_opens_a_level": (aims_without_entry([5]), "false", "true"),
     },
     "run_step": {
         "a_parted_run_says_what_is_left_as_spent": (
@@ -743,6 +766,16 @@ TABLE = {
         ),
     },
     "run_act": {
+        "a_lookup_that_isnt_there_costs_nothing": (
+            run([1], lookup(KIND_1, 1, 2), [(0, 1)]),
+            f"Finished, spent 1, d 1, idx {LIMIT}, 1 at [0], text 1",
+            f"Finished, spent 0, d 1, idx {LIMIT}, 1 at [0], text 1",
+        ),
+        "a_lookup_that_isnt_there_ends_the_run": (
+            run([1], lookup(KIND_1, 1, 2), [(0, 1), (0, 0)], allowance=2),
+            f"Finished, spent 2, d 1, idx {LIMIT}, 1 at [0], text 2",
+            f"Full, spent 1, d 0, idx {LIMIT - 1}, 1 at [0], text 1",
+        ),
         "full_writes_all_the_same": (
             run([2] * LIMIT, K11_BOOK, [(0, 0)], places=[0], end=1),
             f"Full, spent 1, d 0, idx 0, 1 at [0], text of {LIMIT} glyphs",
@@ -756,6 +789,16 @@ TABLE = {
         "kind_2_touches_nothing": (k11(), K11_ANSWER, f"Finished, spent 1, d 3, idx {LIMIT}, 3 at [0, 1, 2], text 1 2 3"),
     },
     "run_cycle": {
+        "a_lookup_past_the_last_is_found": (
+            run([1], lookup(KIND_1, 1, 2), [(0, 1)]),
+            f"Finished, spent 1, d 1, idx {LIMIT}, 1 at [0], text 1",
+            f"Finished, spent 1, d 1, idx {LIMIT}, 1 at [0], text 2",
+        ),
+        "a_lookup_that_acts_is_lost": (
+            run([1], lookup(KIND_1, 1, 2), [(0, 0)]),
+            f"Finished, spent 1, d 1, idx {LIMIT}, 1 at [0], text 2",
+            f"Finished, spent 1, d 1, idx {LIMIT}, 1 at [0], text 1",
+        ),
         "a_chain_that_matches_does_nothing": (
             run([5, 6], chain(5, records=[(0, 1)]) + lookup(KIND_1, 5, 9), [(0, 0)], allowance=2, depth=2),
             f"Finished, spent 2, d 2, idx {LIMIT}, 2 at [0, 1], text 9 6",
@@ -765,6 +808,11 @@ TABLE = {
             run([1, 1], lookup(KIND_1, 1, 2), [(0, 0), (1, 0)], allowance=2),
             f"Finished, spent 2, d 2, idx {LIMIT}, 2 at [0, 1], text 2 2",
             f"Finished, spent 1, d 2, idx {LIMIT}, 2 at [0, 1], text 2 1",
+        ),
+        "every_record_does_the_first_lookup": (
+            run([1], lookup(KIND_1, 1, 2) + lookup(KIND_1, 1, 3), [(0, 1)]),
+            f"Finished, spent 1, d 1, idx {LIMIT}, 1 at [0], text 3",
+            f"Finished, spent 1, d 1, idx {LIMIT}, 1 at [0], text 2",
         ),
         "positions_are_not_repaired": (
             k11(),

@@ -85,10 +85,11 @@ entry_at ws at =
     cond (leb 4 (length ws - at)) (cond (leb size (length ws - (at + 4))) (kind_at (up_to ws at) (get_or ws at 0) props (at + 4)) None)
     None
 
-abbrev pub is_chain : Entry → Bool
-is_chain (Entry.One props from to) = false
-is_chain (Entry.Many props from ids) = false
-is_chain (Entry.Chain props parts) = true
+abbrev pub is_chain : Option Entry → Bool
+is_chain (Some (Entry.One props from to)) = false
+is_chain (Some (Entry.Many props from ids)) = false
+is_chain (Some (Entry.Chain props parts)) = true
+is_chain None = false
 
 -- how many words it takes, where there is one
 unfoldable pub size_at : List ℕ → ℕ → Option ℕ

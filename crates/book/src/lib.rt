@@ -70,11 +70,11 @@ pub fn size_at(words: &[u16], at: usize) -> Option<usize>
     Some(4 + words[at + 3] as usize)
 }
 
-// Whether a lookup applies records where it matches, and doesn't act by itself.
-pub fn is_chain(e: Entry) -> bool
+// Whether a lookup applies records where it matches, and doesn't act by itself. One that the book doesn't have is none.
+pub fn is_chain(e: Option<Entry>) -> bool
     ensures { result ≡ is_chain e }
 {
-    matches!(e, Entry::Chain { .. })
+    matches!(e, Some(Entry::Chain { .. }))
 }
 
 // The lookup that begins at `at`.

@@ -4,7 +4,7 @@
 ghost use Rattle.std.specs.Prelude.{◌≤◌, ◌<◌, length};
 ghost use Rattle.glyph.specs.Glyph.{limit};
 ghost use Rattle.text.specs.Text.{Fits};
-ghost use Rattle.book.specs.Inside.{EntryInside};
+ghost use Rattle.book.specs.Inside.{FoundInside};
 ghost use Rattle.run_step.specs.State.{run_of, Ran};
 ghost use Rattle.run_act.specs.Acts.{one_on, many_on, acted_by};
 
@@ -47,16 +47,20 @@ fn act_many(done: &mut [u32], coming: &[u32], s: State, from: u32, ids: &[u16]) 
     run_step::parted(s, place)
 }
 
-// Kinds 1 and 2; any other entry does nothing here. `coming` is lent as the cycle has it, to write to; these two only read it.
+// Kinds 1 and 2; any other entry does nothing here. Nor does a lookup that the book doesn't have.
+// `coming` is lent as the cycle has it, to write to; these two only read it.
 #[tactic(auto, using(crate::specs::Laws::limit_most))]
-pub fn act(done: &mut [u32], coming: &mut [u32], book: &[u16], e: Entry, s: State) -> State
-    requires { Fits done.old coming.old s.place × (s.place.idx < limit) × EntryInside (length book.now) e }
+pub fn act(done: &mut [u32], coming: &mut [u32], book: &[u16], e: Option<Entry>, s: State) -> State
+    requires { Fits done.old coming.old s.place × (s.place.idx < limit) × FoundInside (length book.now) e }
     ensures { Ran done.new coming.new result
         (acted_by book.now e (run_of done.old coming.old s)) }
 {
     match e {
-        Entry::One { from, to, .. } => act_one(done, coming, s, from, to),
-        Entry::Many { from, ids, .. } => act_many(done, coming, s, from, &book[ids.from..ids.to]),
-        Entry::Chain { .. } => s,
+        Some(Entry::One { from, to, .. }) => act_one(done, coming, s, from, to),
+        Some(Entry::Many { from, ids, .. }) => {
+            act_many(done, coming, s, from, &book[ids.from..ids.to])
+        }
+        Some(Entry::Chain { .. }) => s,
+        None => s,
     }
 }

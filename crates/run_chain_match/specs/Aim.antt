@@ -36,7 +36,8 @@ abbrev pub by_id : Tests
 by_id = record { backtrack = Test.Equal; input = Test.Equal; lookahead = Test.Equal }
 
 -- the chain of an entry
-abbrev pub aimed_at : Given → List ℕ → List ℕ → Entry → Text → Option Aim
-aimed_at given sets ws (Entry.Chain props parts) t = aim_at parts.records (chain_by given sets props (ids_of (chain_of ws parts)) t)
-aimed_at given sets ws (Entry.One props from to) t = None
-aimed_at given sets ws (Entry.Many props from ids) t = None
+abbrev pub aimed_at : Given → List ℕ → List ℕ → Option Entry → Text → Option Aim
+aimed_at given sets ws (Some (Entry.Chain props parts)) t = aim_at parts.records (chain_by given sets props (ids_of (chain_of ws parts)) t)
+aimed_at given sets ws (Some (Entry.One props from to)) t = None
+aimed_at given sets ws (Some (Entry.Many props from ids)) t = None
+aimed_at given sets ws None t = None

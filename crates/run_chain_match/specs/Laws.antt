@@ -153,7 +153,7 @@ module _ (done coming : List ℕ) (p : Place) (f : Fits done coming p) (q : Term
 pub aim_chain : (given : Given) (sets ws : List ℕ) (t : Text) (props : ℕ) (c : ChainParts) (q : Terms) → q ≡ asks given props
     → aim_at c.records (chain_match q sets t
     (handed_chain by_id ws c))
-    ≡ aimed_at given sets ws (Entry.Chain props c) t
+    ≡ aimed_at given sets ws (Some (Entry.Chain props c)) t
 unfolding chain_match value_by
 aim_chain given sets ws t props c q e =
     ap (λ (x : Terms). aim_at c.records (chain_match x sets t (handed_chain by_id ws c))) e

@@ -7,7 +7,7 @@ ghost use Rattle.text.specs.Text.{text_of, Fits};
 ghost use Rattle.verdict.specs.Verdict.{value_by};
 ghost use Rattle.matching.specs.Matchers.{input_on, ahead_on, back_on};
 ghost use Rattle.matching.specs.Answers.{input_told};
-ghost use Rattle.book.specs.Inside.{GoodChain, EntryInside};
+ghost use Rattle.book.specs.Inside.{GoodChain, FoundInside};
 ghost use Rattle.run.specs.Chain.{asks, is_taken, itself, chain_match};
 ghost use Rattle.run_chain_match.specs.Aim.{aim_at, handed_chain, aimed_at};
 
@@ -169,20 +169,21 @@ impl Search<'_> {
     }
 }
 
-// The chain of an entry at the cursor; any other entry is none.
+// The chain of an entry at the cursor; any other entry is none, and so is a lookup that the book doesn't have.
+#[tactic(auto, using(crate::specs::Laws::aim_chain))]
 pub fn take_aim(
     done: &[u32],
     coming: &[u32],
     book: &[u16],
     sets: &[u16],
-    e: Entry,
+    e: Option<Entry>,
     p: Place,
     given: Given,
 ) -> Option<Aim>
-    requires { Fits done.now coming.now p × (p.idx < limit) × EntryInside (length book.now) e }
+    requires { Fits done.now coming.now p × (p.idx < limit) × FoundInside (length book.now) e }
     ensures { result ≡ aimed_at given sets.now book.now e (text_of done.now coming.now p) }
 {
-    let Entry::Chain { props, parts } = e else {
+    let Some(Entry::Chain { props, parts }) = e else {
         return None;
     };
     let terms = ask(given, props);

@@ -8,7 +8,7 @@ use Rattle.book.specs.declared.Part.{Part}
 use Rattle.book.specs.declared.ChainParts.{ChainParts}
 use Rattle.book.specs.Book.{Record, Chain, Kind3, Found, records_of, lookup_at, most_input, most_records, lookups_of}
 use Rattle.book.specs.Places.{part_of, chain_of, meant, is_chain, found_in, found_at}
-use Rattle.book.specs.Inside.{PartInside, EntryInside, FoundInside}
+use Rattle.book.specs.Inside.{PartInside, FoundInside}
 use Rattle.book.specs.Finds.{found_is, found_inside}
 use Rattle.run.specs.declared.Given.{Given}
 use Rattle.run.specs.Repair.{Level, Sound}
@@ -71,7 +71,7 @@ pub look_none : (given : Given) (sets ws : List ℕ) (depth : ℕ) (x : Run)
 unfolding deed_by
 look_none given sets ws depth x = refl
 
-module _ (given : Given) (sets ws : List ℕ) (depth : ℕ) (done coming : List ℕ) (s : State) (e : Entry) where
+module _ (given : Given) (sets ws : List ℕ) (depth : ℕ) (done coming : List ℕ) (s : State) (e : Option Entry) where
   abbrev level_run : List Record → Stage → Stage
   level_run rs v = chain_run (ruled given sets) (lookups_of ws) depth rs v
 
@@ -80,14 +80,15 @@ module _ (given : Given) (sets ws : List ℕ) (depth : ℕ) (done coming : List 
 
   -- what the lookup does, by the definition
   abbrev pub deed_run : Run
-  deed_run = done_by (chain_run (ruled given sets) (lookups_of ws) depth) ((ruled given sets).deed (meant ws (Some e))) (run_of done coming s)
+  deed_run = done_by (chain_run (ruled given sets) (lookups_of ws) depth) ((ruled given sets).deed (meant ws e)) (run_of done coming s)
 
-  -- one that acts by itself
-  acts_by : (b : Entry) → is_chain b ≡ false → acted_by ws b run ≡ done_by level_run ((ruled given sets).deed (meant ws (Some b))) run
+  -- one that acts by itself, or that the book doesn't have
+  acts_by : (b : Option Entry) → is_chain b ≡ false → acted_by ws b run ≡ done_by level_run ((ruled given sets).deed (meant ws b)) run
   unfolding deed_by
-  acts_by (Entry.Chain props parts) h = let z : ◌≡◌ {A = ℕ} 0 1 = cc in absurd (omega arith)
-  acts_by (Entry.One props from to) h = refl
-  acts_by (Entry.Many props from ids) h = refl
+  acts_by (Some (Entry.Chain props parts)) h = let z : ◌≡◌ {A = ℕ} 0 1 = cc in absurd (omega arith)
+  acts_by (Some (Entry.One props from to)) h = refl
+  acts_by (Some (Entry.Many props from ids)) h = refl
+  acts_by None h = look_none given sets ws depth run
 
   pub look_acts : is_chain e ≡ false → acted_by ws e (run_of done coming s) ≡ deed_run
   look_acts h = acts_by e h
@@ -108,23 +109,25 @@ module _ (given : Given) (sets ws : List ℕ) (depth : ℕ) (done coming : List 
   miss_match records (Matched ps end) h = let z : ◌≡◌ {A = ℕ} 0 1 = cc in absurd (omega arith)
   miss_match records Unmatched h = refl
 
-  abbrev aimed : Entry → Option Aim
+  abbrev aimed : Option Entry → Option Aim
   aimed b = aimed_at given sets ws b (text_of done coming s.place)
 
   abbrev matched : ℕ → ChainParts → Match
   matched props c = chain_by given sets props (ids_of (chain_of ws c)) (text_of done coming s.place)
 
-  hit_by : (b : Entry) → IfSome (aimed b) (λ a. aimed_run a ≡ done_by level_run ((ruled given sets).deed (meant ws (Some b))) run)
+  hit_by : (b : Option Entry) → IfSome (aimed b) (λ a. aimed_run a ≡ done_by level_run ((ruled given sets).deed (meant ws b)) run)
   unfolding deed_by
-  hit_by (Entry.Chain props c) = hit_match c.records (matched props c)
-  hit_by (Entry.One props from to) = tt
-  hit_by (Entry.Many props from ids) = tt
+  hit_by (Some (Entry.Chain props c)) = hit_match c.records (matched props c)
+  hit_by (Some (Entry.One props from to)) = tt
+  hit_by (Some (Entry.Many props from ids)) = tt
+  hit_by None = tt
 
-  miss_by : (b : Entry) → is_chain b ≡ true → None ≡ aimed b → run ≡ done_by level_run ((ruled given sets).deed (meant ws (Some b))) run
+  miss_by : (b : Option Entry) → is_chain b ≡ true → None ≡ aimed b → run ≡ done_by level_run ((ruled given sets).deed (meant ws b)) run
   unfolding deed_by
-  miss_by (Entry.Chain props c) k h = miss_match c.records (matched props c) h
-  miss_by (Entry.One props from to) k h = let z : ◌≡◌ {A = ℕ} 0 1 = cc in absurd (omega arith)
-  miss_by (Entry.Many props from ids) k h = let z : ◌≡◌ {A = ℕ} 0 1 = cc in absurd (omega arith)
+  miss_by (Some (Entry.Chain props c)) k h = miss_match c.records (matched props c) h
+  miss_by (Some (Entry.One props from to)) k h = let z : ◌≡◌ {A = ℕ} 0 1 = cc in absurd (omega arith)
+  miss_by (Some (Entry.Many props from ids)) k h = let z : ◌≡◌ {A = ℕ} 0 1 = cc in absurd (omega arith)
+  miss_by None k h = let z : ◌≡◌ {A = ℕ} 0 1 = cc in absurd (omega arith)
 
   -- the level that a chain opens is sound, and its records are in the book
   pub record Opens (a : Aim) : Type 0 where
@@ -150,13 +153,14 @@ module _ (given : Given) (sets ws : List ℕ) (depth : ℕ) (done coming : List 
       }
   opens_match records Unmatched fit i = tt
 
-  opens_by : (b : Entry) → EntryInside (length ws) b → s.place.d < length (text_of done coming s.place).glyphs → IfSome (aimed b) Opens
-  opens_by (Entry.Chain props c) g h =
+  opens_by : (b : Option Entry) → FoundInside (length ws) b → s.place.d < length (text_of done coming s.place).glyphs → IfSome (aimed b) Opens
+  opens_by (Some (Entry.Chain props c)) g h =
       opens_match c.records (matched props c)
       (chain_fitting (asks given props) sets (text_of done coming s.place) h (ids_of (chain_of ws c))
       (few_ids (chain_of ws c) (few_input ws c g.input))) g.records
-  opens_by (Entry.One props from to) g h = tt
-  opens_by (Entry.Many props from ids) g h = tt
+  opens_by (Some (Entry.One props from to)) g h = tt
+  opens_by (Some (Entry.Many props from ids)) g h = tt
+  opens_by None g h = tt
 
   pub look_miss : is_chain e ≡ true → None ≡ aimed_at given sets ws e (text_of done coming s.place) → run_of done coming s ≡ deed_run
   look_miss k h = miss_by e k h
@@ -166,7 +170,7 @@ module _ (given : Given) (sets ws : List ℕ) (depth : ℕ) (done coming : List 
         ≡ deed_run
     look_hit = rw (sym is) at (hit_by e)
 
-    pub aim_opens : EntryInside (length ws) e → s.place.d < length (text_of done coming s.place).glyphs → Opens a
+    pub aim_opens : FoundInside (length ws) e → s.place.d < length (text_of done coming s.place).glyphs → Opens a
     aim_opens g h = rw (sym is) at (opens_by e g h)
 
 -- ---- a level that is shown

@@ -5,12 +5,14 @@ ghost use Rattle.std.specs.Prelude.{◌+◌, ◌≤◌, ◌<◌, length};
 ghost use Rattle.glyph.specs.Glyph.{limit};
 ghost use Rattle.text.specs.Text.{Fits};
 ghost use Rattle.book.specs.Book.{records_of, lookups_of};
-ghost use Rattle.run.specs.Run.{chain_run, lookup_run, most_allowance};
+ghost use Rattle.book.specs.Places.{meant};
+ghost use Rattle.book.specs.Inside.{FoundInside};
+ghost use Rattle.run.specs.Run.{chain_run, done_by, most_allowance};
 ghost use Rattle.run.specs.Deeds.{ruled};
 ghost use Rattle.run_step.specs.State.{run_of, stage_of, Ran, Able};
 ghost use Rattle.run_cycle.specs.Levels.{Indexed, Chained};
 
-use book::Index;
+use book::{Entry, Index};
 use run::Given;
 use run_positions::Slots;
 use run_step::State;
@@ -58,7 +60,8 @@ pub fn chain(
         lv = ready.level;
         if ready.go {
             let old = text::size(st.place);
-            st = lookup(done, coming, shared, k, st, depth - 1);
+            let e = book::find_in(shared.book, &shared.index.starts, shared.index.count, k);
+            st = lookup(done, coming, shared, e, st, depth - 1);
             let new = text::size(st.place);
             lv = run_positions::repair(lv, seq, old, new);
         }
@@ -69,24 +72,23 @@ pub fn chain(
     }
 }
 
-// Lookup k at the cursor: it acts by itself, or it is a chain, whose records are done where it matches.
+// A lookup at the cursor, as the book has it: it acts by itself, or it is a chain, whose records are done where it matches.
 #[cycle(chain_lookup)]
 fn lookup(
     done: &mut [u32],
     coming: &mut [u32],
     shared: &Shared<'_>,
-    k: usize,
+    e: Option<Entry>,
     s: State,
     depth: usize,
 ) -> State
-    requires { Fits done.old coming.old s.place × (s.place.idx < limit) × (s.left + s.spent ≤ most_allowance) }
+    requires { FoundInside (length shared.now.book.now) e
+        × Fits done.old coming.old s.place × (s.place.idx < limit) × (s.left + s.spent ≤ most_allowance) }
     ensures { Ran done.new coming.new result
-        (lookup_run (ruled shared.now.given shared.now.sets.now) (lookups_of shared.now.book.now) depth k
+        (done_by (chain_run (ruled shared.now.given shared.now.sets.now) (lookups_of shared.now.book.now) depth)
+        ((ruled shared.now.given shared.now.sets.now).deed (meant shared.now.book.now e))
         (run_of done.old coming.old s)) }
 {
-    let Some(e) = book::find_in(shared.book, &shared.index.starts, shared.index.count, k) else {
-        return s;
-    };
     if !book::is_chain(e) {
         return run_act::act(done, coming, shared.book, e, s);
     }

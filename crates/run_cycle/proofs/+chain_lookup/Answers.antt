@@ -1,9 +1,9 @@
 -- `chain` and `lookup` meet their contracts. Each turn of the loop does what the next record says; a lookup does its entry's deed. Assumes nothing.
-use Rattle.std.proofs.Common.{Some, None, subst, ap, ap₂, arith, get_or, length, sym, List, ℕ, ◌++◌, ◌∙◌, ◌≡◌, ◌≤◌, ◌<◌}
+use Rattle.std.proofs.Common.{Some, ap, ap₂, arith, get_or, length, sym, Option, List, ℕ, ◌++◌, ◌-◌, ◌∙◌, ◌≡◌, ◌≤◌, ◌<◌}
 use Rattle.std.specs.Slice.Iter.{chunks_exact_rest}
 use Rattle.book.specs.declared.Entry.{Entry}
-use Rattle.book.specs.Places.{found_in}
-use Rattle.book.specs.Inside.{EntryInside, FoundInside}
+use Rattle.book.specs.Inside.{FoundInside}
+use Rattle.book.specs.Finds.{found_inside}
 use Rattle.glyph.specs.Glyph.{limit}
 use Rattle.text.specs.Text.{text_of, Fits, size_of}
 use Rattle.book.specs.Book.{records_of}
@@ -18,7 +18,7 @@ use Rattle.run_chain_match.specs.Aim.{aimed_at}
 use Rattle.run_step.specs.State.{run_of, stage_of, Able}
 use Rattle.run_cycle.specs.declared.Shared.{Shared}
 use Rattle.run_cycle.specs.Levels.{Indexed}
-use Rattle.run_cycle.specs.Cycle.{level_neat, entry_good, entry_run, look_none, look_acts, look_hit, look_miss, Opens, aim_opens}
+use Rattle.run_cycle.specs.Cycle.{level_neat, entry_run, look_acts, look_hit, look_miss, Opens, aim_opens}
 use Rattle.run_cycle.specs.Turns.{record_at, ready_neat, tried_deep, tried_inside, tried_few, tried_sound, tried_index, nested_at, still_able}
 use Rattle.run_cycle.specs.Turns.{turn_rest, turn_go, records_pair, records_over, closed_is, closed_level, glyph_there, size_within}
 use Rattle.run_cycle.proofs.+chain_lookup.Goals as goal
@@ -41,6 +41,7 @@ chain-lookup-st-requires t c =
     let d : 1 ≤ a.depth = tried_deep a.depth r l.done l.coming l.st l.lv l.invariant.2 p.new.done p.new.coming p.result p.ensures go in (
       omega (arith, c.decreases),
       (
+        rw c.find_in-e.ensures (found_inside a.shared.now.book.now _ _ _),
         p.ensures.ran.fits,
         tried_inside a.depth r l.done l.coming l.st l.lv l.invariant.2 p.new.done p.new.coming p.result p.ensures go,
         tried_few a.depth r l.done l.coming l.st l.lv l.invariant.2 p.new.done p.new.coming p.result p.ensures go,
@@ -88,8 +89,12 @@ chain-loop-pair-preserved-then-ready t c =
     let went = c.lookup-st in
     let lev = c.repair-lv.ensures
     ∙ ap₂ (λ (x y : ℕ). shown (repaired (get_or pair 0 0) x y (level_of p.result.level))) c.size-old.ensures c.size-new.ensures in
+    let is = went.ensures.is
+    ∙ entry_run h.indexed h.given h.sets.now (a.depth - 1) (get_or pair 1 0) c.find_in-e.result c.find_in-e.ensures
+    (run_of p.new.done p.new.coming p.result.state) in
     let turn = turn_go h.given h.sets.now h.book.now a.depth pair 0 (omega arith) l.done l.coming l.st l.lv l.invariant.2
-    p.new.done p.new.coming p.result p.ensures c.if-ready.true went.new.done went.new.coming went.result c.repair-lv.result went.ensures lev in
+    p.new.done p.new.coming p.result p.ensures c.if-ready.true went.new.done went.new.coming went.result c.repair-lv.result
+    (record { fits = went.ensures.fits; is = is }) lev in
     let neat = level_neat c.repair-lv.result
     (repaired (get_or pair 0 0) (size_of p.result.state.place) (size_of went.result.place) (level_of p.result.level)) lev in (
       went.auto.done ∙ p.auto.done ∙ l.invariant.0,
@@ -143,31 +148,6 @@ chain-returns t c =
 
 -- ---- a lookup
 
-module _ (h : Shared) (k : ℕ) (e : Entry) (found : Some e ≡ found_in h.book.now h.index.now.starts h.index.now.count k) where
-  -- the entry that was found is in the book
-  inside : EntryInside (length h.book.now) e
-  inside = subst (FoundInside (length h.book.now)) (sym found) (entry_good h.indexed k)
-
-  -- the chain opens a level over the text, and its records are in the book
-  opens : (depth : ℕ) (done coming : List ℕ) (s : State) (a : Aim) → Fits done coming s.place → s.place.idx < limit
-      → Some a ≡ aimed_at h.given h.sets.now h.book.now e (text_of done coming s.place)
-      → Opens h.given h.sets.now h.book.now depth done coming s e a
-  opens depth done coming s a f i is =
-      aim_opens h.given h.sets.now h.book.now depth done coming s e a is inside (glyph_there done coming s f i)
-
-pub lookup-returns-in_default : goal.lookup-returns-in_default
-lookup-returns-in_default t c =
-    let a = c.args in
-    let h = a.shared.now in
-    record {
-      fits = c.requires.0;
-      is = look_none h.given h.sets.now h.book.now a.depth (run_of a.done.now a.coming.now a.s)
-          ∙ entry_run h.indexed h.given h.sets.now a.depth a.k None c.in_default.ensures (run_of a.done.now a.coming.now a.s);
-    }
-
-pub lookup-act-requires : goal.lookup-act-requires
-lookup-act-requires t c = (c.requires.0, c.requires.1, inside c.args.shared.now c.args.k c.in-Some.e c.in-Some.ensures)
-
 pub lookup-returns-then-not-is_chain : goal.lookup-returns-then-not-is_chain
 lookup-returns-then-not-is_chain t c =
     let a = c.args in
@@ -175,59 +155,56 @@ lookup-returns-then-not-is_chain t c =
     let f = c.act.ensures in
     record {
       fits = f.fits;
-      is = f.is
-          ∙ look_acts h.given h.sets.now h.book.now a.depth a.done.now a.coming.now a.s c.in-Some.e (sym c.is_chain.ensures ∙ c.if-not-is_chain.true)
-          ∙ entry_run h.indexed h.given h.sets.now a.depth a.k (Some c.in-Some.e) c.in-Some.ensures (run_of a.done.now a.coming.now a.s);
+      is = f.is ∙ look_acts h.given h.sets.now h.book.now a.depth a.done.now a.coming.now a.s a.e
+          (sym c.is_chain.ensures ∙ c.if-not-is_chain.true);
     }
 
-pub lookup-take_aim-requires : goal.lookup-take_aim-requires
-lookup-take_aim-requires t c = (c.requires.0, c.requires.1, inside c.args.shared.now c.args.k c.in-Some.e c.in-Some.ensures)
-
-pub lookup-returns-in_default-take_aim : goal.lookup-returns-in_default-take_aim
-lookup-returns-in_default-take_aim t c =
+pub lookup-returns-in_default : goal.lookup-returns-in_default
+lookup-returns-in_default t c =
     let a = c.args in
     let h = a.shared.now in
     record {
-      fits = c.requires.0;
-      is = look_miss h.given h.sets.now h.book.now a.depth a.done.now a.coming.now a.s c.in-Some.e
-          (sym c.is_chain.ensures ∙ c.if-not-is_chain.false) c.in_default-take_aim.ensures
-          ∙ entry_run h.indexed h.given h.sets.now a.depth a.k (Some c.in-Some.e) c.in-Some.ensures (run_of a.done.now a.coming.now a.s);
+      fits = c.requires.1;
+      is = look_miss h.given h.sets.now h.book.now a.depth a.done.now a.coming.now a.s a.e
+          (sym c.is_chain.ensures ∙ c.if-not-is_chain.false) c.in_default.ensures;
     }
+
+-- the chain opens a level over the text, and its records are in the book
+opens : (h : Shared) (e : Option Entry) (depth : ℕ) (done coming : List ℕ) (s : State) (a : Aim) → FoundInside (length h.book.now) e
+    → Fits done coming s.place → s.place.idx < limit → Some a ≡ aimed_at h.given h.sets.now h.book.now e (text_of done coming s.place)
+    → Opens h.given h.sets.now h.book.now depth done coming s e a
+opens h e depth done coming s a g f i is =
+    aim_opens h.given h.sets.now h.book.now depth done coming s e a is g (glyph_there done coming s f i)
 
 pub lookup-offset_bounds-shared-aim : goal.lookup-offset_bounds-shared-aim
 lookup-offset_bounds-shared-aim t c =
     let a = c.args in
-    let q = opens a.shared.now a.k c.in-Some.e c.in-Some.ensures a.depth a.done.now a.coming.now a.s c.in-Some-take_aim.aim
-    c.requires.0 c.requires.1 c.in-Some-take_aim.ensures in
+    let q = opens a.shared.now a.e a.depth a.done.now a.coming.now a.s c.in-Some.aim c.requires.0 c.requires.1 c.requires.2 c.in-Some.ensures in
     omega (arith, q.ordered, q.within)
 
 pub lookup-slice_bounds-records-count : goal.lookup-slice_bounds-records-count
 lookup-slice_bounds-records-count t c =
     let a = c.args in
-    let q = opens a.shared.now a.k c.in-Some.e c.in-Some.ensures a.depth a.done.now a.coming.now a.s c.in-Some-take_aim.aim
-    c.requires.0 c.requires.1 c.in-Some-take_aim.ensures in
+    let q = opens a.shared.now a.e a.depth a.done.now a.coming.now a.s c.in-Some.aim c.requires.0 c.requires.1 c.requires.2 c.in-Some.ensures in
     omega (arith, q.ordered)
 
 pub lookup-slice_bounds-records-start : goal.lookup-slice_bounds-records-start
 lookup-slice_bounds-records-start t c =
     let a = c.args in
-    let q = opens a.shared.now a.k c.in-Some.e c.in-Some.ensures a.depth a.done.now a.coming.now a.s c.in-Some-take_aim.aim
-    c.requires.0 c.requires.1 c.in-Some-take_aim.ensures in
+    let q = opens a.shared.now a.e a.depth a.done.now a.coming.now a.s c.in-Some.aim c.requires.0 c.requires.1 c.requires.2 c.in-Some.ensures in
     omega (arith, q.ordered, q.within)
 
 pub lookup-slice_bounds-records-end : goal.lookup-slice_bounds-records-end
 lookup-slice_bounds-records-end t c =
     let a = c.args in
-    let q = opens a.shared.now a.k c.in-Some.e c.in-Some.ensures a.depth a.done.now a.coming.now a.s c.in-Some-take_aim.aim
-    c.requires.0 c.requires.1 c.in-Some-take_aim.ensures in
+    let q = opens a.shared.now a.e a.depth a.done.now a.coming.now a.s c.in-Some.aim c.requires.0 c.requires.1 c.requires.2 c.in-Some.ensures in
     omega (arith, q.ordered, q.within)
 
 pub lookup-chain-requires : goal.lookup-chain-requires
 lookup-chain-requires t c =
     let a = c.args in
-    let q = opens a.shared.now a.k c.in-Some.e c.in-Some.ensures a.depth a.done.now a.coming.now a.s c.in-Some-take_aim.aim
-    c.requires.0 c.requires.1 c.in-Some-take_aim.ensures in
-    (omega (arith, c.decreases), record { fits = c.requires.0; few = c.requires.2; neat = q.neat; sound = q.sound })
+    let q = opens a.shared.now a.e a.depth a.done.now a.coming.now a.s c.in-Some.aim c.requires.0 c.requires.1 c.requires.2 c.in-Some.ensures in
+    (omega (arith, c.decreases), record { fits = c.requires.1; few = c.requires.3; neat = q.neat; sound = q.sound })
 
 pub lookup-returns : goal.lookup-returns
 lookup-returns t c =
@@ -237,7 +214,5 @@ lookup-returns t c =
     record {
       fits = f.fits;
       is = f.is
-          ∙ look_hit h.given h.sets.now h.book.now a.depth a.done.now a.coming.now a.s c.in-Some.e
-          c.in-Some-take_aim.aim c.in-Some-take_aim.ensures
-          ∙ entry_run h.indexed h.given h.sets.now a.depth a.k (Some c.in-Some.e) c.in-Some.ensures (run_of a.done.now a.coming.now a.s);
+          ∙ look_hit h.given h.sets.now h.book.now a.depth a.done.now a.coming.now a.s a.e c.in-Some.aim c.in-Some.ensures;
     }
