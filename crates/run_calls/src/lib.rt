@@ -98,7 +98,7 @@ fn apply(
     }) allowance depth)
         done.old coming.old done.new coming.new result }
 {
-    let Ok(Success { end, total: _ }) = matched.answer else {
+    let Ok(Success { end, total }) = matched.answer else {
         return Err(RunRefusal::Match);
     };
     let places = matched.positions;
