@@ -868,6 +868,11 @@ TABLE = {
         ),
     },
     "run_record_structs": {
+        "each_record_is_read_as_the_first": (
+            k11([1, 1], lookup(KIND_1, 1, 2), [(0, 0), (1, 0)], allowance=2, how=STRUCTS),
+            f"Finished, spent 2, d 2, idx {LIMIT}, 2 at [0, 1], text 2 2",
+            f"Finished, spent 2, d 2, idx {LIMIT}, 2 at [0, 1], text 2 1",
+        ),
         "no_record_is_run": (k11(how=STRUCTS), K11_ANSWER, f"Finished, spent 0, d 3, idx {LIMIT}, 3 at [0, 1, 2], text 1 2 3"),
         "sequence_and_lookup_are_swapped": (k11(how=STRUCTS), K11_ANSWER, f"Finished, spent 1, d 3, idx {LIMIT}, 3 at [0, 1, 2], text 1 2 3"),
         "seventeen_records_are_accepted": (

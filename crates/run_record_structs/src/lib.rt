@@ -1,10 +1,10 @@
 // Records as structs: a run over a lent slice of them answers as the run on the same pairs in words.
 #![tactic(auto)]
 
-ghost use Rattle.std.specs.Prelude.{◌≡◌, ◌*◌, ◌<◌, ◌≤◌, length, take};
+ghost use Rattle.std.specs.Prelude.{◌≡◌, ◌*◌, ◌<◌, ◌≤◌, length, get_or, take};
 ghost use Rattle.run_calls.specs.Calls.{Said};
 ghost use Rattle.run_record_structs.specs.Records.{record_words};
-ghost use Rattle.run_record_structs.specs.Array.{most_pairs, pairs_kept, with_pair, Filled};
+ghost use Rattle.run_record_structs.specs.Array.{most_pairs, pairs_kept, no_record, with_pair, Filled};
 
 use matching::InputMatch;
 use run::{Given, RunRefusal};
@@ -62,6 +62,14 @@ pub fn run(
     )
 }
 
+// The thin reader: the record at a place.
+fn record_at(records: &[Record], i: usize) -> Record
+    requires { i < length records.now }
+    ensures { result ≡ get_or records.now i no_record }
+{
+    records[i]
+}
+
 // The first records as pairs of words, and how many there are. An array with its length beside it, since the library has no heap.
 #[derive(Clone, Copy, Debug, PartialEq, Eq)]
 struct Pairs {
@@ -70,17 +78,17 @@ struct Pairs {
 }
 
 impl Pairs {
-    // As many records as are kept, in their order.
+    // As many records as are kept, read one by one.
     fn of(records: &[Record]) -> Pairs
         ensures { Filled (take (pairs_kept (length records.now)) records.now) result }
     {
-        let kept = &records[..records.len().min(KEPT)];
+        let kept = records.len().min(KEPT);
         let mut pairs = Pairs {
             n: 0,
             words: [0; 2 * KEPT],
         };
-        for r in kept {
-            pairs.push(*r);
+        for i in 0..kept {
+            pairs.push(record_at(records, i));
         }
         pairs
     }
