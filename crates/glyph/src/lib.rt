@@ -124,7 +124,10 @@ pub fn copy(to: &mut [u32], j: usize, from: &[u32], i: usize, n: usize)
     let x = WORDS * j;
     let y = WORDS * i;
     let end = WORDS * n;
-    to[x..x + end].copy_from_slice(&from[y..y + end]);
+    // By words: of the slice's own method the compiler makes a call of memmove, which the library's users would have to link.
+    for k in 0..end {
+        to[x + k] = from[y + k];
+    }
 }
 
 // n glyphs of the row, from glyph j on, become blank.

@@ -1,20 +1,29 @@
--- The words copied are those of the n glyphs. Assumes nothing.
-use Rattle.std.proofs.Common.{ap, arith, drop, ◌*◌, ◌+◌, ◌-◌, ◌∙◌, ◌≡◌}
-use Rattle.std.proofs.Math.Seq.{paste}
-use Rattle.std.proofs.lemmas.Grind.{common_steps}
-use borrow.Rule.Slice.PartMut.{put_mid}
+-- A turn copies one word more. Assumes nothing.
+use Rattle.std.proofs.Common.{ap, arith, drop, length-set, refl, ◌*◌, ◌∙◌, ◌≡◌}
+use Rattle.std.proofs.Math.Seq.{paste, paste-zero}
 use Rattle.glyph.specs.Glyph.{words, glyphs_of}
 use Rattle.glyph.specs.Laws.{length-glyphs_of}
-use Rattle.glyph.specs.WriteLaws.{copied_glyphs_of}
+use Rattle.glyph.specs.WriteLaws.{paste_more, copied_glyphs_of}
 use Rattle.glyph.proofs.copy.Goals as goal
 
+pub loop-k-init : goal.loop-k-init
+loop-k-init c = let a = c.args in (
+  refl,
+  omega (arith, length-glyphs_of a.to.now),
+  omega (arith, length-glyphs_of a.from.now),
+  paste-zero a.to.now (words * a.j) (drop (words * a.i) a.from.now),
+)
+
+pub loop-k-preserved : goal.loop-k-preserved
+loop-k-preserved c = let a = c.args in let l = c.loop-k in (
+  simp length-set l.invariant.0,
+  l.invariant.1,
+  l.invariant.2,
+  rw l.invariant.3 (paste_more a.to.now a.from.now (words * a.j) (words * a.i) l.k (omega arith) (omega arith)),
+)
+
 pub returns : goal.returns
-returns c =
-    let a = c.args in
-    let w = a.to.now in
-    let x = words * a.j in
-    let n = words * a.n in
-    let s = drop (words * a.i) a.from.now in
-    let e : put_mid x (x + n - x) w c.copy_from_slice.new.self ≡ paste w x s n = grind (arith, common_steps) in
-    ap glyphs_of e
-    ∙ copied_glyphs_of w a.from.now a.j a.i a.n (omega (arith, length-glyphs_of w)) (omega (arith, length-glyphs_of a.from.now))
+returns c = let a = c.args in let l = c.loop-k in
+    let e : l.k ≡ words * a.n = omega arith in
+    ap glyphs_of (l.invariant.3 ∙ ap (paste a.to.now (words * a.j) (drop (words * a.i) a.from.now)) e)
+    ∙ copied_glyphs_of a.to.now a.from.now a.j a.i a.n l.invariant.1 l.invariant.2
