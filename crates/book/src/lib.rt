@@ -77,7 +77,8 @@ pub fn is_chain(e: Option<Entry>) -> bool
     matches!(e, Some(Entry::Chain { .. }))
 }
 
-// The lookup that begins at `at`.
+// The lookup that begins at `at`. It and `kind_at` stand where they are called: where a book is only divided, no entry is then put together.
+#[inline(always)]
 #[tactic(auto, using(std::proofs::lemmas::Bool::Decides::nat_tests), unfolding(crate::specs::Places::entry_at))]
 fn entry_at(words: &[u16], at: usize) -> Option<Entry>
     ensures { result ≡ entry_at words.now at }
@@ -91,6 +92,7 @@ fn entry_at(words: &[u16], at: usize) -> Option<Entry>
 }
 
 // The lookup of a kind whose body begins at `a` and ends where the words end. The kinds' numbers are the book's own format.
+#[inline(always)]
 #[tactic(auto, using(std::proofs::lemmas::Bool::Decides::nat_tests), unfolding(crate::specs::Places::kind_at))]
 fn kind_at(words: &[u16], kind: u16, props: u32, a: usize) -> Option<Entry>
     ensures { result ≡ kind_at words.now kind props a }

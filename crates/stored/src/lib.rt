@@ -218,9 +218,11 @@ fn byte(text: &[u8], i: usize) -> u32
 fn hex(b: u8) -> u32
     ensures { (result ≡ hex_digit b) × (result < 16) }
 {
-    match b {
-        b'0'..=b'9' => (b - b'0') as u32,
-        b'A'..=b'F' => (b - b'A') as u32 + 10,
-        _ => 0,
+    if b.is_ascii_digit() {
+        (b - b'0') as u32
+    } else if b.is_ascii_uppercase() & (b <= b'F') {
+        (b - 55) as u32
+    } else {
+        0
     }
 }
