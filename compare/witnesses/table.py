@@ -471,7 +471,7 @@ TABLE = {
             backward([glyph(7, syllable=2)], 1, syllable=1, syllables=True), "Ok(Stopped(0))", "Ok(Found(0))",
         ),
         "run_out_backward_the_extent_is_the_place": (backward([mark(9)], 1, props=8), "Ok(RanOut(0))", "Ok(RanOut(1))"),
-        "the_extent_backward_is_the_place": (backward([5, 5], 2), "Ok(Stopped(0))", "Ok(Stopped(1))"),
+        "the_extent_backward_is_the_place": (backward([5, 5], 1), "Ok(Stopped(0))", "Ok(Stopped(1))"),
         "the_extent_is_the_place_that_stopped": (forward([5, 5]), "Ok(Stopped(2))", "Ok(Stopped(1))"),
         "the_extent_of_running_out_is_the_length": (forward([5], place=1), "Ok(RanOut(2))", "Ok(RanOut(1))"),
         "the_first_tested_is_the_place_itself": (forward([7, 5]), "Ok(Stopped(2))", "Ok(Found(0))"),

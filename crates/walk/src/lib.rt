@@ -110,7 +110,8 @@ pub fn back_extent(p: usize) -> usize
 }
 
 // The backward walk: the next place to test is the one before `place`. A glyph that isn't skip Yes is read anew, so that the compiler loads only the
-// props of one that is. It stands where it is called, as the forward walk does.
+// props of one that is. The first place is taken by `back_extent`, not by a subtraction like that at the end of a turn, and the row's beginning is
+// asked for last: the compiler then keeps one counter for the place and not two, which a range in reverse has. It stands where it is called.
 #[inline(always)]
 #[tactic(auto, using(crate::proofs::Turns::turns_back))]
 pub fn backward_from(
@@ -125,7 +126,11 @@ pub fn backward_from(
     requires { place ≤ length (glyphs_of row.now) }
     ensures { result ≡ walk_back (judge_at m (value_of sign lists.now) syllable sets.now (glyphs_of row.now)) place }
 {
-    for p in (0..place).rev() {
+    let mut p = back_extent(place);
+    if place == 0 {
+        return Walked::RanOut(p); // which is 0
+    }
+    loop {
         if !verdict_skip::is_skip_yes(m, sets, glyph::read(row, p)) {
             match verdict_match::on_rest(m, sign, lists, syllable, glyph::read(row, p)) {
                 Verdict::Match => return Walked::Found(p),
@@ -133,6 +138,9 @@ pub fn backward_from(
                 Verdict::Skip => {}
             }
         }
+        if p == 0 {
+            return Walked::RanOut(0);
+        }
+        p -= 1;
     }
-    Walked::RanOut(0)
 }
