@@ -1,12 +1,13 @@
 -- The answer from the row's end with all values is the answer from `place` with the values left. Each turn takes one, by the walk back from
 -- there. Assumes nothing.
-use Rattle.std.proofs.Common.{ap, arith, drop, get_or, length, sym, ℕ, ◌+◌, ◌<◌, ◌∙◌, ◌≡◌}
+use Rattle.std.proofs.Common.{ap, arith, drop, get_or, length, sym, ℕ, Err, ◌+◌, ◌<◌, ◌∙◌, ◌≡◌}
 use Rattle.glyph.specs.Glyph.{glyphs_of}
 use Rattle.verdict.specs.declared.Verdict.{Verdict}
 use Rattle.verdict.specs.Verdict.{value_by}
 use Rattle.walk.specs.declared.Walked.{Walked}
 use Rattle.walk.specs.declared.Walked.TheVariants.{Found}
 use Rattle.walk.specs.Backward.{back_found}
+use Rattle.matching.specs.declared.NoContext.TheVariants.{Lost}
 use Rattle.matching.specs.Take.{behind}
 use Rattle.matching.specs.Matchers.{judge, back_on}
 use Rattle.matching.specs.Going.{told, told_by, told_on, told_end}
@@ -51,7 +52,8 @@ returns-in-Stopped c =
 pub returns-in-RanOut : goal.returns-in-RanOut
 unfolding back_on
 returns-in-RanOut c =
-    rw (← c.matcher_of-m.ensures) (sym (whole (goal.at.returns-in-RanOut c).After-backward_from _ c.in-RanOut.is))
+    ap (λ (n : ℕ). Err (Lost n)) {y = c.in-RanOut.extent} (omega arith)
+    ∙ rw (← c.matcher_of-m.ensures) (sym (whole (goal.at.returns-in-RanOut c).After-backward_from _ c.in-RanOut.is))
 
 pub returns : goal.returns
 unfolding back_on
