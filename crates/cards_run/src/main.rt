@@ -8,12 +8,13 @@ use verdict::{Settings, Table, Test};
 // The words of two glyphs.
 const ROW: usize = 2 * glyph::WORDS;
 
-fn main(rt: HostRuntime) -> io::Result<()> {
+// A card that standard output doesn't take is lost, and the next is tried all the same: the status stays 0, and standard error says nothing.
+fn main(rt: HostRuntime) {
     let row = two();
     let seven = [7u32; 64];
-    say(&rt, "K15, no values:", on(&row, &[]))?;
-    say(&rt, "K15, 63 values:", on(&row, &seven[..63]))?;
-    say(&rt, "K15, 64 values:", on(&row, &seven))
+    let _ = say(&rt, "K15, no values:", on(&row, &[]));
+    let _ = say(&rt, "K15, 63 values:", on(&row, &seven[..63]));
+    let _ = say(&rt, "K15, 64 values:", on(&row, &seven));
 }
 
 // Glyphs 5 and 7, of mask 1 and one component each; every other word is 0.

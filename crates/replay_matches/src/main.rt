@@ -8,7 +8,6 @@
 
 use matching::{ContextMatch, InputAnswer, InputMatch, NoContext, NoMatch, Success, Terms};
 use matching_calls::{match_backtrack, match_input, match_lookahead};
-use std::io;
 use stored::{Replayed, add_one, after, list, listed, more, size, slots_are, word};
 use verdict::Test;
 
@@ -60,14 +59,15 @@ impl From<u32> for Origin {
     }
 }
 
-fn main(rt: HostRuntime) -> io::Result<()> {
+fn main(rt: HostRuntime) {
     let mut words = stored::word_room();
     let count = stored::read_list(&mut words);
     let tally: Tally = stored::replay(&words, count);
-    println!(rt;
+    // What standard output doesn't take is lost: the status stays 0, and standard error says nothing.
+    let _ = println!(rt;
         "input {}, lookahead {}, backtrack {}, differences {}; answered otherwise {}",
         tally.input, tally.lookahead, tally.backtrack, tally.differences, tally.wrong
-    )
+    );
 }
 
 impl stored::Tally for Tally {

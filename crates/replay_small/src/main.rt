@@ -6,7 +6,6 @@
 use allowance::{Budget, Charged};
 use digest::SetDigest;
 use rule_digest::RuleSetDigest;
-use std::io;
 use stored::{Replayed, add_one, after, more, number, part, word};
 
 // Nothing compares it, and it is printed a count at a time.
@@ -80,14 +79,15 @@ impl From<u32> for Operation {
     }
 }
 
-fn main(rt: HostRuntime) -> io::Result<()> {
+fn main(rt: HostRuntime) {
     let mut words = stored::word_room();
     let count = stored::read_list(&mut words);
     let tally: Tally = stored::replay(&words, count);
-    println!(rt;
+    // What standard output doesn't take is lost: the status stays 0, and standard error says nothing.
+    let _ = println!(rt;
         "set digests {}, rule set digests {}, allowances {}; answered otherwise {}",
         tally.sets, tally.rules, tally.allowances, tally.wrong
-    )
+    );
 }
 
 impl stored::Tally for Tally {

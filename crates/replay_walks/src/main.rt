@@ -7,7 +7,6 @@
 #![tactic(auto)]
 
 use glyph::IllShaped;
-use std::io;
 use stored::{Replayed, add_one, after, list, listed, more, size, word};
 use verdict::{Matcher, Sign, Test};
 use walk::Walked;
@@ -80,21 +79,22 @@ struct Question {
     len: usize,
 }
 
-fn main(rt: HostRuntime) -> io::Result<()> {
+fn main(rt: HostRuntime) {
     let mut words = stored::word_room();
     let count = stored::read_list(&mut words);
-    report(&rt, stored::replay(&words, count))
+    report(&rt, stored::replay(&words, count));
 }
 
-fn report(rt: &impl Print, tally: Tally) -> io::Result<()> {
-    print!(rt;
+// What standard output doesn't take is lost, and the rest is tried all the same: the status stays 0, and standard error says nothing.
+fn report(rt: &impl Print, tally: Tally) {
+    let _ = print!(rt;
         "may skip {}, may match {}, verdicts {}, walks forward {}, backward {}, ",
         tally.skips, tally.matches, tally.verdicts, tally.forward, tally.backward
-    )?;
-    println!(rt;
+    );
+    let _ = println!(rt;
         "refused {}, differences {}; answered otherwise {}",
         tally.refused, tally.differences, tally.wrong
-    )
+    );
 }
 
 impl stored::Tally for Tally {
