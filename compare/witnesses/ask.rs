@@ -113,8 +113,17 @@ fn empty_lines(n: usize) -> String {
 fn feed(piece: &[u8], room: usize) -> String {
     let mut kept = tape_feed::KeptLine::new();
     let mut out = vec![0; room];
-    let fed = tape_feed::feed(piece, 0, &mut kept, &mut out, 0);
+    let fed = kept.feed(piece, 0, &mut out, 0);
     format!("place {}, {:?}", fed.at, String::from_utf8_lossy(&out[..fed.written]))
+}
+
+// What is kept of a line that begins after another.
+fn kept(line: &[u8], next: &[u8]) -> String {
+    let mut kept = tape_feed::KeptLine::new();
+    line.iter().for_each(|&b| kept.push(b));
+    kept.clear();
+    next.iter().for_each(|&b| kept.push(b));
+    String::from_utf8_lossy(kept.bytes()).into_owned()
 }
 
 fn decoded(text: &[u8]) -> String {

@@ -187,6 +187,11 @@ def tape(line):
     return call("tape", line.encode() + b"\n")
 
 
+def feed(line):
+    """A line as the first of a tape, with room for one answer."""
+    return call("feed", line.encode() + b"\n", "tape_answer::MOST_ANSWER")
+
+
 T1 = frame([5, 7])
 LONGEST = frame([5] * 64, values=[7] * 64, done=[5] * 64)
 
@@ -905,15 +910,20 @@ TABLE = {
     "tape_feed": {
         "a_CR_ends_a_line": (tape(T1), "00000200020200000001", "FF"),
         "a_line_that_is_no_frame_answers_00": (tape(""), "FF", "00"),
-        "a_line_begins_with_a_byte": (tape(T1), "00000200020200000001", "FF"),
-        "a_line_begins_full": (tape(T1), "00000200020200000001", "FF"),
-        "a_line_keeps_a_byte_of_the_last": (tape(T1 + "\n" + T1), "00000200020200000001 00000200020200000001", "00000200020200000001 FF FF"),
-        "half_a_line_is_kept": (tape(T1 + "\n" + T1), "00000200020200000001 00000200020200000001", "00000200020200000001 FF FF"),
+        "a_line_begins_with_a_byte": (feed(T1), f'place {len(T1) + 1}, "00000200020200000001\\n"', f'place {len(T1) + 1}, "FF\\n"'),
+        "a_line_begins_full": (feed(T1), f'place {len(T1) + 1}, "00000200020200000001\\n"', f'place {len(T1) + 1}, "FF\\n"'),
+        "a_line_begins_anew_in_each_piece": (reads("tape_in_reads", T1[:56], T1[56:] + "\n"), "00000200020200000001", "FF"),
+        "a_line_keeps_a_byte_of_the_last": (call("kept", b"ab", b"c"), "c", "ac"),
+        "half_a_line_is_kept": (call("kept", b"abcd", b"e"), "e", "abe"),
         "every_byte_is_kept_at_the_front": (tape(T1), "00000200020200000001", "FF"),
-        "more_than_the_line_is_handed_on": (tape(T1), "00000200020200000001", "FF FF"),
-        "nothing_of_a_line_is_handed_on": (tape(T1), "00000200020200000001", "FF"),
+        "more_than_the_line_is_handed_on": (tape(T1), "00000200020200000001", "00000200020200000001 FF"),
+        "nothing_of_a_line_is_handed_on": (reads("tape_in_reads", T1), "00000200020200000001", ""),
+        "the_next_line_begins_with_a_byte_of_the_last": (
+            tape(T1 + "\n" + T1), "00000200020200000001 00000200020200000001", "00000200020200000001 FF FF",
+        ),
+        "what_a_piece_leaves_is_forgotten": (reads("tape_in_reads", T1), "00000200020200000001", ""),
         "the_byte_after_the_longest_frame_is_forgotten": (tape(LONGEST + "0"), "FF", "03"),
-        "feed_stops_though_an_answer_has_room": (call("feed", b"\n", "tape_answer::MOST_ANSWER"), 'place 1, "FF\\n"', 'place 0, ""'),
+        "feed_stops_though_an_answer_has_room": (feed(""), 'place 1, "FF\\n"', 'place 0, ""'),
     },
     "bench_tape": {
         "a_byte_is_written_before_the_answers": (tape(T1), "00000200020200000001", "\x0000000200020200000001"),

@@ -41,7 +41,7 @@ fn take_part<W: Write, E: Write>(
     requires { from < length piece.now }
     ensures { IfOk result (λ at. PartTaken piece.now from kept.old at kept.new (W.contents stdout.old) (W.contents stdout.new)) }
 {
-    let fed = tape_feed::feed(piece, from, kept, out, 0);
+    let fed = kept.feed(piece, from, out, 0);
     send(&out[..fed.written], stdout, stderr)?;
     Ok(fed.at)
 }

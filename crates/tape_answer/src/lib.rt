@@ -22,10 +22,18 @@ const SLOTS: usize = matching::MAX_CONTEXT_LENGTH;
 // What ends a line.
 pub const NEWLINE: u8 = 10;
 
-// How far a tape is read: the place in the piece at hand, and the bytes of answers so far.
+// How far a tape is read: the place in the piece at hand, the bytes kept of the line so far, and the bytes of answers so far.
 #[derive(Clone, Copy, Debug, PartialEq, Eq)]
 pub struct Fed {
     pub at: usize,
+    pub kept: usize,
+    pub written: usize,
+}
+
+// The same of one byte.
+#[derive(Clone, Copy, Debug, PartialEq, Eq)]
+pub struct Taken {
+    pub kept: usize,
     pub written: usize,
 }
 

@@ -10,11 +10,11 @@ ghost use Rattle.tape_frame.specs.Put.{Puts};
 ghost use Rattle.tape_answer.specs.Answer.{answer_line};
 ghost use Rattle.tape_answer.specs.Asking.{asked};
 ghost use Rattle.tape_answer.specs.Line.{most_answer};
-ghost use Rattle.tape_answer.specs.Feeding.{line_after, answer_at, bytes_taken, Feeds};
+ghost use Rattle.tape_answer.specs.Feeding.{most_kept, longer, line_after, answer_at, bytes_taken, Feeds};
 
 pub use kept::KeptLine;
 use matching::{InputMatch, Terms};
-use tape_answer::{Fed, MOST_ANSWER, NEWLINE};
+use tape_answer::{Fed, MOST_ANSWER, MOST_KEPT, NEWLINE, Taken};
 use tape_frame::{Head, Lists, MOST_VALUES, ROW};
 use verdict::Test;
 
@@ -62,39 +62,65 @@ pub fn answer_line(line: &[u8], out: &mut [u8], at: usize) -> usize
     }
 }
 
-// One byte of the tape: it ends the line, which is answered, or is kept, or only makes a long line longer. Where the answers end then.
-fn take_byte(kept: &mut KeptLine, out: &mut [u8], m: usize, b: u8) -> usize
-    requires { m + most_answer ≤ length out.old }
-    ensures kept_after { kept.new ≡ line_after kept.old b }
-    ensures puts { Puts out.old m (answer_at kept.old b) out.new result }
-    ensures within { result ≤ length out.old }
+// A byte more of a line, where there is room. How many bytes are kept then.
+fn keep(kept: &mut [u8], n: usize, b: u8) -> usize
+    requires { (n ≤ most_kept) × (length kept.old ≡ most_kept) }
+    ensures kept_after { take result kept.new ≡ longer (take n kept.old) b }
+    ensures kept_le_most_kept { result ≤ most_kept }
 {
-    if b == NEWLINE {
-        let end = answer_line(kept.bytes(), out, m);
-        kept.clear();
-        return end;
+    if n < MOST_KEPT {
+        kept[n] = b;
+        return n + 1;
     }
-    kept.push(b);
-    m
+    n
 }
 
-// A piece of the tape from a place on, until it ends or `out` has no room for one more answer.
-pub fn feed(piece: &[u8], from: usize, kept: &mut KeptLine, out: &mut [u8], m: usize) -> Fed
-    requires { (from < length piece.now) × (m + most_answer ≤ length out.old) }
-    ensures feeds { Feeds (bytes_taken (length out.old - m) kept.old (drop from piece.now)) from
-        kept.old out.old m result.at kept.new out.new result.written }
-    ensures from_lt_at { (from < result.at) × (result.at ≤ length piece.now) × (result.written ≤ length out.old) }
+// One byte of the tape: it ends the line, which is answered, or is kept, or only makes a long line longer.
+fn take_byte(kept: &mut [u8], n: usize, out: &mut [u8], m: usize, b: u8) -> Taken
+    requires { (n ≤ most_kept) × (length kept.old ≡ most_kept) × (m + most_answer ≤ length out.old) }
+    ensures kept_after { take result.kept kept.new ≡ line_after (take n kept.old) b }
+    ensures puts { Puts out.old m (answer_at (take n kept.old) b) out.new result.written }
+    ensures kept_le_most_kept { (result.kept ≤ most_kept) × (result.written ≤ length out.old) }
+{
+    if b == NEWLINE {
+        let end = answer_line(&kept[..n], out, m);
+        return Taken {
+            kept: 0,
+            written: end,
+        };
+    }
+    Taken {
+        kept: keep(kept, n, b),
+        written: m,
+    }
+}
+
+// A piece of the tape from a place on, until it ends or `out` has no room for one more answer. What is kept of the line are the first
+// bytes of the caller's own slice, and their number; whoever has no slice for it takes a `KeptLine`, which feeds itself.
+pub fn feed(piece: &[u8], from: usize, kept: &mut [u8], n: usize, out: &mut [u8], m: usize) -> Fed
+    requires { (from < length piece.now) × (n ≤ most_kept) × (length kept.old ≡ most_kept) × (m + most_answer ≤ length out.old) }
+    ensures feeds { Feeds (bytes_taken (length out.old - m) (take n kept.old) (drop from piece.now)) from
+        (take n kept.old) out.old m result.at (take result.kept kept.new) out.new result.written }
+    ensures from_lt_at { (from < result.at) × (result.at ≤ length piece.now) × (result.kept ≤ most_kept) × (result.written ≤ length out.old) }
     ensures out_len_bound { result.at < length piece.now → length out.old < result.written + most_answer }
 {
+    let mut held = n;
     let mut written = m;
     for at in from..piece.len() {
         if out.len() - written < MOST_ANSWER {
-            return Fed { at, written };
+            return Fed {
+                at,
+                kept: held,
+                written,
+            };
         }
-        written = take_byte(kept, out, written, piece[at]);
+        let taken = take_byte(kept, held, out, written, piece[at]);
+        held = taken.kept;
+        written = taken.written;
     }
     Fed {
         at: piece.len(),
+        kept: held,
         written,
     }
 }

@@ -13,7 +13,7 @@ returns g c = let a = c.args in
       written = take fed.result.written fed.new.out;
       writes = c.in_ok-send.ensures;
       answers =
-          answers_rest a.piece.now a.from a.kept.now a.out.now 0 _ fed.result.at fed.new.kept fed.new.out fed.result.written
-          fed.ensures.feeds taken.2;
-      leaves = line_rest a.piece.now a.from a.kept.now a.out.now 0 _ fed.result.at fed.new.kept fed.new.out fed.result.written fed.ensures.feeds;
+          answers_rest a.piece.now a.from a.kept.now a.out.now 0 _ fed.result.at fed.new.self fed.new.out fed.result.written
+          fed.ensures.feeds taken.3;
+      leaves = line_rest a.piece.now a.from a.kept.now a.out.now 0 _ fed.result.at fed.new.self fed.new.out fed.result.written fed.ensures.feeds;
     }
