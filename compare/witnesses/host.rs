@@ -1,7 +1,7 @@
 // Stands in for what a program is given by its host: standard input in memory, for each thread its own. A read gets what is left of one piece
 // of it. What is written goes to one place with standard error, or, where the device is full, nowhere.
 use std::cell::{Cell, RefCell};
-pub use std::io::{Read, Result, Write};
+pub use std::io::{Error, Read, Result, Write};
 
 thread_local! {
     pub static READY: RefCell<Vec<Vec<u8>>> = const { RefCell::new(Vec::new()) };

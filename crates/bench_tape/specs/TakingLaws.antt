@@ -1,12 +1,14 @@
 -- Writes after each other, and a tape piece by piece: what is written of it is the answers to it.
-use Rattle.std.specs.Prelude.{ℕ, ◌≤◌, ◌≡◌, refl, List, [], ◌∷◌, ◌++◌, Option, Some, None, Result, Ok, Err, OnOk, length, take, drop}
+use Rattle.std.specs.Prelude.{ℕ, ◌≤◌, ◌≡◌, refl, List, [], ◌∷◌, ◌++◌, length, take, drop}
+use Rattle.std.specs.Prelude.{Option, Some, None, Result, Ok, Err, OnOk, OnErr, IsErr, is_ok}
 use Rattle.std.specs.Io.KnownBytes.{Appends}
-use Rattle.std.proofs.Common.{sym, ap, ◌∙◌, append_assoc, append-nil, drop_of_length-le, arith}
+use Rattle.std.proofs.Common.{sym, ap, ◌∙◌, true≢false, append_assoc, append-nil, drop_of_length-le, arith}
 use Rattle.tape_frame.specs.Put.{Puts, put_none, front_put}
 use Rattle.tape_answer.specs.Feeding.{line_left, answers_in}
 use Rattle.tape_answer.specs.Tape.{last_answer, tape_of}
 use Rattle.tape_answer.specs.Pieces.{line_pieces, answers_pieces, tape_whole}
-use Rattle.bench_tape.specs.Taking.{PartTaken, PieceTaken, Answered, TapeOf}
+use Rattle.bench_tape.specs.declared.Part.{Part}
+use Rattle.bench_tape.specs.Taking.{PartTaken, PieceTaken, LineOf, Answered, TapeOf}
 
 -- nothing written
 pub writes_none : (held : Option (List ℕ)) → Appends held held []
@@ -36,6 +38,21 @@ pub on_ok : {T E P Q : Type 0} (r : Result T E) → OnOk r P → (P → Q) → O
 on_ok (Ok x) h f = f h
 on_ok (Err e) h f = h
 
+-- what holds of a call that succeeds
+pub if_ok : {T E P : Type 0} (r : Result T E) → OnOk r P → (x : T) → r ≡ Ok x → P
+if_ok (Ok y) h x e = h
+if_ok (Err w) h x e = absurd (err_ok w x e)
+  where
+    err_ok : {T E : Type 0} (w : E) (x : T) → Err w ≡ Ok x → ⊥
+    err_ok w x e = true≢false (sym (ap is_ok e))
+
+-- what holds where a call succeeds, if that before it did: it doesn't where that failed
+pub on_both : {T E P Q R : Type 0} (S : Type 0) (r r' : Result T E) → OnOk r P → OnErr r (IsErr r' × S) → OnOk r' Q → (P → Q → R) → OnOk r' R
+on_both S (Ok x) (Ok y) h e k f = f h k
+on_both S (Err x) (Ok y) h e k f = absurd (true≢false (sym e.0))
+on_both S (Ok x) (Err y) h e k f = k
+on_both S (Err x) (Err y) h e k f = k
+
 -- ---- a piece, a part at a time
 
 -- what was taken of a piece so far: its answers and those to the rest are the piece's
@@ -50,13 +67,14 @@ pub taken_none : (piece line : List ℕ) (held : Option (List ℕ)) → TakenSo 
 taken_none piece line held = record { within = omega arith; written = []; writes = writes_none held; answers = refl; leaves = refl }
 
 pub taken_more : (piece line : List ℕ) (at : ℕ) (line' : List ℕ) (a b : Option (List ℕ)) → TakenSo piece line at line' a b
-    → (at' : ℕ) (line'' : List ℕ) (c : Option (List ℕ)) → PartTaken piece at line' at' line'' b c → TakenSo piece line at' line'' a c
-taken_more piece line at line' a b so at' line'' c p = record {
+    → (p : Part) (line'' out : List ℕ) (c : Option (List ℕ)) → PartTaken piece at line' p line'' out → Appends b c (take p.written out)
+    → TakenSo piece line p.at line'' a c
+taken_more piece line at line' a b so part line'' out c p w = record {
   within = p.within;
-  written = so.written ++ p.written;
-  writes = writes_then a b c so.written p.written so.writes p.writes;
+  written = so.written ++ take part.written out;
+  writes = writes_then a b c so.written (take part.written out) so.writes w;
   answers =
-      append_assoc so.written p.written (answers_in line'' (drop at' piece))
+      append_assoc so.written (take part.written out) (answers_in line'' (drop part.at piece))
       ∙ ap (λ (l : List ℕ). so.written ++ l) p.answers
       ∙ so.answers;
   leaves = p.leaves ∙ so.leaves;
@@ -73,6 +91,11 @@ taken_all piece line at line' a b so h =
       leaves = rw none at so.leaves;
     }
 
+-- what is left at a piece's end is the line
+pub left_all : (piece line : List ℕ) (at : ℕ) → length piece ≤ at → line_left line (drop at piece) ≡ line
+unfolding line_left
+left_all piece line at h = rw (drop_of_length-le piece {i = at} h) refl
+
 -- ---- a tape, a piece at a time
 
 pub answered_none : (held : Option (List ℕ)) → Answered [] held held
@@ -87,6 +110,15 @@ answered_more line a b so piece line' c p = record {
       (ap (λ (l : List ℕ). answers_in [] so.input ++ answers_in l piece) so.left ∙ sym (answers_pieces [] so.input piece))
       (writes_then a b c (answers_in [] so.input) (answers_in line piece) so.writes p.writes);
   left = p.leaves ∙ ap (λ (l : List ℕ). line_left l piece) so.left ∙ sym (line_pieces [] so.input piece);
+}
+
+pub line_answered : (line : List ℕ) (a b : Option (List ℕ)) → Answered line a b → LineOf line
+line_answered line a b so = record { input = so.input; left = so.left }
+
+pub line_more : (line : List ℕ) → LineOf line → (piece line' : List ℕ) → line' ≡ line_left line piece → LineOf line'
+line_more line so piece line' on = record {
+  input = so.input ++ piece;
+  left = on ∙ ap (λ (l : List ℕ). line_left l piece) so.left ∙ sym (line_pieces [] so.input piece);
 }
 
 pub tape_answered : (line : List ℕ) (a b : Option (List ℕ)) → Answered line a b → (c : Option (List ℕ)) → Appends b c (last_answer line) → TapeOf a c
