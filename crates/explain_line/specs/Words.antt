@@ -1,6 +1,7 @@
 -- Words in a line: when there is room for the whole of them, and what a line is that ends in them.
-use Rattle.std.specs.Prelude.{ℕ, ◌+◌, ◌≤◌, ◌≡◌, List, ◌++◌, length, take, drop}
-use Rattle.std.proofs.Common.{ap, ◌∙◌, drop-drop}
+use Rattle.std.specs.Prelude.{ℕ, ◌+◌, ◌-◌, ◌≤◌, ◌<◌, ◌≡◌, List, ◌++◌, length, get_or, set, take, drop}
+use Rattle.std.proofs.Common.{ap, sym, ◌∙◌, arith, drop-drop, length-take-le}
+use Rattle.std.proofs.lemmas.List.{set-append_left, set-append_right, set-get_or}
 use Rattle.tape_frame.specs.Put.{put, Puts, take_put}
 
 -- the whole of the words fits into a line from a place on
@@ -22,3 +23,16 @@ put_ends {line = line} {words = words} {line' = line'} {at = at} h p = record {
 pub put_paste : (line words : List ℕ) (at k : ℕ) → k ≡ length words → put line at words ≡ take at line ++ (words ++ drop k (drop at line))
 unfolding put
 put_paste line words at k e = rw (e, drop-drop (length words) at line)
+
+-- a byte of the words that is put once more, where it stands, changes nothing
+pub put_again : (line words : List ℕ) (at k j : ℕ) → k ≡ length words → j < length words → at ≤ length line
+    → put line at words ≡ set (take at line ++ (words ++ drop k (drop at line))) (at + j) (get_or words j 0)
+put_again line words at k j e h room =
+    let rest = drop k (drop at line) in
+    let b = get_or words j 0 in
+    let i : at + j - at ≡ j = omega arith in
+    put_paste line words at k e
+    ∙ sym (
+    set-append_right (take at line) (words ++ rest) at (at + j) b (length-take-le at line room) (omega arith)
+    ∙ ap (λ (x : ℕ). take at line ++ set (words ++ rest) x b) i
+    ∙ ap (λ (l : List ℕ). take at line ++ l) (set-append_left words rest j b h ∙ ap (λ (l : List ℕ). l ++ rest) (set-get_or words j 0)))

@@ -49,7 +49,7 @@ pub fn why_none(line: &[u8]) -> LineFault
 // ---- words
 
 // Words into a line from a place on, the whole of them, and where they end. What stands before and behind them stays.
-#[tactic(auto, using(crate::specs::Words::put_paste))]
+#[tactic(auto, using(crate::specs::Words::put_paste, crate::specs::Words::put_again))]
 pub fn put(line: &mut [u8], at: usize, words: &[u8]) -> usize
     requires { IsFitting line.old at words.now }
     ensures { Puts line.old at words.now line.new result }
