@@ -61,7 +61,7 @@ pub fn chain(
         if ready.go {
             let old = text::size(st.place);
             let e = book::find_in(shared.book, &shared.index.starts, shared.index.count, k);
-            st = lookup(done, coming, shared, e, st, depth - 1);
+            st = lookup(done, coming, shared, &e, st, depth - 1);
             let new = text::size(st.place);
             lv = run_positions::repair(lv, seq, old, new);
         }
@@ -72,32 +72,33 @@ pub fn chain(
     }
 }
 
-// A lookup at the cursor, as the book has it: it acts by itself, or it is a chain, whose records are done where it matches.
+// A lookup at the cursor, as the book has it: it acts by itself, or it is a chain, whose records are done where it matches. Its entry is lent, since
+// each record would pay for a copy more.
 #[cycle(chain_lookup)]
 fn lookup(
     done: &mut [u32],
     coming: &mut [u32],
     shared: &Shared<'_>,
-    e: Option<Entry>,
+    e: &Option<Entry>,
     s: State,
     depth: usize,
 ) -> State
-    requires { FoundInside (length shared.now.book.now) e
+    requires { FoundInside (length shared.now.book.now) e.now
         × Fits done.old coming.old s.place × (s.place.idx < limit) × (s.left + s.spent ≤ most_allowance) }
     ensures { Ran done.new coming.new result
         (done_by (chain_run (ruled shared.now.given shared.now.sets.now) (lookups_of shared.now.book.now) depth)
-        ((ruled shared.now.given shared.now.sets.now).deed (meant shared.now.book.now e))
+        ((ruled shared.now.given shared.now.sets.now).deed (meant shared.now.book.now e.now))
         (run_of done.old coming.old s)) }
 {
-    if !book::is_chain(e) {
-        return run_act::act(done, coming, shared.book, e, s);
+    if !book::is_chain(*e) {
+        return run_act::act(done, coming, shared.book, *e, s);
     }
     let Some(aim) = run_chain_match::take_aim(
         done,
         coming,
         shared.book,
         shared.sets,
-        e,
+        *e,
         s.place,
         shared.given,
     ) else {

@@ -155,7 +155,7 @@ lookup-returns-then-not-is_chain t c =
     let f = c.act.ensures in
     record {
       fits = f.fits;
-      is = f.is ∙ look_acts h.given h.sets.now h.book.now a.depth a.done.now a.coming.now a.s a.e
+      is = f.is ∙ look_acts h.given h.sets.now h.book.now a.depth a.done.now a.coming.now a.s a.e.now
           (sym c.is_chain.ensures ∙ c.if-not-is_chain.true);
     }
 
@@ -165,7 +165,7 @@ lookup-returns-in_default t c =
     let h = a.shared.now in
     record {
       fits = c.requires.1;
-      is = look_miss h.given h.sets.now h.book.now a.depth a.done.now a.coming.now a.s a.e
+      is = look_miss h.given h.sets.now h.book.now a.depth a.done.now a.coming.now a.s a.e.now
           (sym c.is_chain.ensures ∙ c.if-not-is_chain.false) c.in_default.ensures;
     }
 
@@ -179,31 +179,31 @@ opens h e depth done coming s a g f i is =
 pub lookup-offset_bounds-shared-aim : goal.lookup-offset_bounds-shared-aim
 lookup-offset_bounds-shared-aim t c =
     let a = c.args in
-    let q = opens a.shared.now a.e a.depth a.done.now a.coming.now a.s c.in-Some.aim c.requires.0 c.requires.1 c.requires.2 c.in-Some.ensures in
+    let q = opens a.shared.now a.e.now a.depth a.done.now a.coming.now a.s c.in-Some.aim c.requires.0 c.requires.1 c.requires.2 c.in-Some.ensures in
     omega (arith, q.ordered, q.within)
 
 pub lookup-slice_bounds-records-count : goal.lookup-slice_bounds-records-count
 lookup-slice_bounds-records-count t c =
     let a = c.args in
-    let q = opens a.shared.now a.e a.depth a.done.now a.coming.now a.s c.in-Some.aim c.requires.0 c.requires.1 c.requires.2 c.in-Some.ensures in
+    let q = opens a.shared.now a.e.now a.depth a.done.now a.coming.now a.s c.in-Some.aim c.requires.0 c.requires.1 c.requires.2 c.in-Some.ensures in
     omega (arith, q.ordered)
 
 pub lookup-slice_bounds-records-start : goal.lookup-slice_bounds-records-start
 lookup-slice_bounds-records-start t c =
     let a = c.args in
-    let q = opens a.shared.now a.e a.depth a.done.now a.coming.now a.s c.in-Some.aim c.requires.0 c.requires.1 c.requires.2 c.in-Some.ensures in
+    let q = opens a.shared.now a.e.now a.depth a.done.now a.coming.now a.s c.in-Some.aim c.requires.0 c.requires.1 c.requires.2 c.in-Some.ensures in
     omega (arith, q.ordered, q.within)
 
 pub lookup-slice_bounds-records-end : goal.lookup-slice_bounds-records-end
 lookup-slice_bounds-records-end t c =
     let a = c.args in
-    let q = opens a.shared.now a.e a.depth a.done.now a.coming.now a.s c.in-Some.aim c.requires.0 c.requires.1 c.requires.2 c.in-Some.ensures in
+    let q = opens a.shared.now a.e.now a.depth a.done.now a.coming.now a.s c.in-Some.aim c.requires.0 c.requires.1 c.requires.2 c.in-Some.ensures in
     omega (arith, q.ordered, q.within)
 
 pub lookup-chain-requires : goal.lookup-chain-requires
 lookup-chain-requires t c =
     let a = c.args in
-    let q = opens a.shared.now a.e a.depth a.done.now a.coming.now a.s c.in-Some.aim c.requires.0 c.requires.1 c.requires.2 c.in-Some.ensures in
+    let q = opens a.shared.now a.e.now a.depth a.done.now a.coming.now a.s c.in-Some.aim c.requires.0 c.requires.1 c.requires.2 c.in-Some.ensures in
     (omega (arith, c.decreases), record { fits = c.requires.1; few = c.requires.3; neat = q.neat; sound = q.sound })
 
 pub lookup-returns : goal.lookup-returns
@@ -214,5 +214,5 @@ lookup-returns t c =
     record {
       fits = f.fits;
       is = f.is
-          ∙ look_hit h.given h.sets.now h.book.now a.depth a.done.now a.coming.now a.s a.e c.in-Some.aim c.in-Some.ensures;
+          ∙ look_hit h.given h.sets.now h.book.now a.depth a.done.now a.coming.now a.s a.e.now c.in-Some.aim c.in-Some.ensures;
     }
