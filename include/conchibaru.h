@@ -319,7 +319,7 @@ bool cb_book_reads(const uint16_t *book, size_t book_len);
  * end. The match is one that cb_match_input made over the same rows, with len CB_LIMIT. At most `allowance` nested lookups are tried,
  * at most `depth` deep. Refused, with no word changed: 1, 2, 12, 11, 7, in this order. Else the ending: Finished; Short, a record was
  * due at allowance 0; Deep, at depth 0; Full, a result would pass CB_LIMIT glyphs. Then both rows hold the text and 0 elsewhere, and
- * positions count from the text's first glyph. On x86-64 it takes 1.3 KB of stack for each level of depth, 84 KB for all 64: measured
+ * positions count from the text's first glyph. On x86-64 it takes 1.2 KB of stack for each level of depth, 81 KB for all 64: measured
  * by link/stack.c, which link/run runs, and not promised.
  *     ids 1, 2, 3 end coming, m matched them whole, and records are {1, 0}
  *     cb_run(done, CB_RUN_WORDS, coming, CB_RUN_WORDS, 0, CB_LIMIT - 3, NULL, 0, book, 8, records, 2, m, switches, 1, 1);

@@ -8,9 +8,9 @@
 //! - **Later versions** may have more refusals, endings and tests, so [`Refusal`], [`Ending`] and [`Test`] are `#[non_exhaustive]`. A
 //!   number that this version has no name for, as a newer library may answer, is told as such ([`Refusal::Unknown`],
 //!   [`RunAnswer::Unknown`]). [`Refusal`] and [`Exhausted`] are [`std::error::Error`]s.
-//! - **Stack.** [`run`] is the only call that nests. On x86-64 it took 1,250 bytes for each level of [`Given::depth`]. At depth 64 the
-//!   smallest thread on which it ended had 88 KB (86,464 bytes where the caller was optimized) in a build that took 3 KB less, found by
-//!   halving [`std::thread::Builder::stack_size`]; every other call ended on the smallest thread that the standard library makes, of 24 KB
+//! - **Stack.** [`run`] is the only call that nests. On x86-64 it took 1,200 bytes for each level of [`Given::depth`]. At depth 64 the
+//!   smallest thread on which it ended had 88 KB (86,464 bytes where the caller was optimized), found by halving
+//!   [`std::thread::Builder::stack_size`]; every other call ended on the smallest thread that the standard library makes, of 24 KB
 //!   there. Measured, not promised; tests/stack.rs runs depth 64 on 128 KB.
 //! - **Names are harfrust's** where it has one: [`match_input`], [`match_lookahead`], [`match_backtrack`], [`may_skip`],
 //!   [`may_match`], [`SetDigest`], [`RuleSetDigest`], [`Budget`]. Its `SkippingIterator` is [`forward`] and [`backward`], its

@@ -49,8 +49,8 @@ pub fn may_match(m: Matcher, sign: Sign, lists: &[u16], syllable: u8, g: Glyph) 
     on_value(sign, lists, g)
 }
 
-// The verdict where skip is Maybe (an ignorable glyph) or No. With the cases in this order no branch of the backward walk's loop meets a boundary of
-// 32 bytes, wherever it is linked; some processors take half as much longer where one does.
+// The verdict where skip is Maybe (an ignorable glyph) or No. The cases' order is for speed: with it no branch that a mark passed over takes in
+// `walk::backward` meets a boundary of 32 bytes, wherever it is linked; some processors take half as much longer where one does.
 fn weigh(ignorable: bool, m: MayMatch) -> Verdict
     ensures { result ≡ verdict_of (cond ignorable MaySkip.Maybe MaySkip.No) m }
 {
