@@ -939,7 +939,9 @@ TABLE = {
             reads("tape_in_reads", T1 + "\n", T1 + "\n"), "00000200020200000001 00000200020200000001", "00000200020200000001",
         ),
         "answers_are_tried_behind_a_lost_one": (
-            "tape_to_full_device(&[&vec![b'\\n'; 65536][..]])", "bench_tape: answers could not be written", " ".join(["bench_tape: answers could not be written"] * 4),
+            "tape_to_full_device(&[&vec![b'\\n'; 65536][..]])",
+            "bench_tape: answers could not be written",
+            " ".join(["bench_tape: answers could not be written"] * 4),
         ),
         "the_line_is_forgotten_after_a_piece": (reads("tape_in_reads", T1[:56], T1[56:] + "\n"), "00000200020200000001", "FF"),
         "what_has_no_room_is_lost": ("empty_lines(65536)", "65536 times FF", "21756 times FF"),
