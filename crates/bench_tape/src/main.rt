@@ -29,7 +29,8 @@ pub struct Part {
     pub sent: Result<()>,
 }
 
-// What a read brings: the bytes that were read, 0 where there are no more, and whether all answers were written. The same holds of it.
+// What a read brings: the bytes that were read, 0 where there are no more, and whether all answers were written. Nothing compares or
+// prints it either.
 #[derive(Drop)]
 pub struct Turn {
     pub read: usize,
