@@ -66,19 +66,29 @@ pub record TakenSo (piece line : List ℕ) (at : ℕ) (line' : List ℕ) (held h
 pub taken_none : (piece line : List ℕ) (held : Option (List ℕ)) → TakenSo piece line 0 line held held
 taken_none piece line held = record { within = omega arith; written = []; writes = writes_none held; answers = refl; leaves = refl }
 
+-- and then something more, whatever was written of it and whatever is kept of the line
 pub taken_more : (piece line : List ℕ) (at : ℕ) (line' : List ℕ) (a b : Option (List ℕ)) → TakenSo piece line at line' a b
+    → (at' : ℕ) (line'' written : List ℕ) (c : Option (List ℕ)) → at' ≤ length piece → Appends b c written
+    → written ++ answers_in line'' (drop at' piece) ≡ answers_in line' (drop at piece)
+    → line_left line'' (drop at' piece) ≡ line_left line' (drop at piece)
+    → TakenSo piece line at' line'' a c
+taken_more piece line at line' a b so at' line'' written c within writes answers leaves = record {
+  within = within;
+  written = so.written ++ written;
+  writes = writes_then a b c so.written written so.writes writes;
+  answers =
+      append_assoc so.written written (answers_in line'' (drop at' piece))
+      ∙ ap (λ (l : List ℕ). so.written ++ l) answers
+      ∙ so.answers;
+  leaves = leaves ∙ so.leaves;
+}
+
+-- a part, where what was handed to a write was written
+pub part_more : (piece line : List ℕ) (at : ℕ) (line' : List ℕ) (a b : Option (List ℕ)) → TakenSo piece line at line' a b
     → (p : Part) (line'' out : List ℕ) (c : Option (List ℕ)) → PartTaken piece at line' p line'' out → Appends b c (take p.written out)
     → TakenSo piece line p.at line'' a c
-taken_more piece line at line' a b so part line'' out c p w = record {
-  within = p.within;
-  written = so.written ++ take part.written out;
-  writes = writes_then a b c so.written (take part.written out) so.writes w;
-  answers =
-      append_assoc so.written (take part.written out) (answers_in line'' (drop part.at piece))
-      ∙ ap (λ (l : List ℕ). so.written ++ l) p.answers
-      ∙ so.answers;
-  leaves = p.leaves ∙ so.leaves;
-}
+part_more piece line at line' a b so part line'' out c p w =
+    taken_more piece line at line' a b so part.at line'' (take part.written out) c p.within w p.answers p.leaves
 
 pub taken_all : (piece line : List ℕ) (at : ℕ) (line' : List ℕ) (a b : Option (List ℕ)) → TakenSo piece line at line' a b → length piece ≤ at
     → PieceTaken piece line line' a b
